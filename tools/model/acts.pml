@@ -53,7 +53,7 @@ inline into_hand() {
     woke()
 }
 
-/* job.rt: steps_of, turns_at. Place::lock: the lock is free, and somebody is there. */
+/* job.rt: steps_of, turns_of. Place::lock: the lock is free, and somebody is there. */
 inline lock_place() {
     assert(!locked[number] && seated[number]);
     locked[number] = true;

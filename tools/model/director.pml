@@ -179,15 +179,16 @@ look:
     :: atomic { heard == LINES && !last_heard && clock >= LAST -> last_heard = true }
     :: (heard < LINES && clock < 1) || (heard == LINES && (last_heard || clock < LAST)) -> break
     od;
-    /* director.rt: wake_all. Each that something came for is marked. If its number is in no queue, it is the director's
-       until all are marked. */
+    /* director.rt: queue_all. Each that something came for is marked. If its number is in no queue, it is the director's
+       until all are marked. The code has the hall's lock from the first mark on. Here each mark is a moment of its own, in
+       which others may have that lock: so all schedules of the code are among these. */
 marks:
     if
     :: atomic { nempty(woken) -> woken ? number };
         MARK_WAKE(number, is_to_queue, marked_one)
     :: empty(woken)
     fi;
-    /* Tables::queue_all, under the hall's lock. */
+    /* Hall::add, under the hall's lock. */
     atomic {
         count = len(numbers);
         do

@@ -79,17 +79,23 @@ fn run_common<J: Run + Send + Sync, R: Threads + Wait + Copy + Send + Sync, G: G
         IsSettledReport system.now plan.entry.lines.now plan.entry.limit report) }
 {
     let alloc = plan.alloc;
+    let mut places = Places::new(alloc)?;
     let tables = Tables::new(alloc, system, plan.workers, plan.limit)?;
-    let places = Places::new(alloc)?;
-    let shared = Shared {
-        alloc,
-        rt,
-        system,
-        common,
-        tables: &tables,
-        places: &places,
-    };
-    run_shared(&shared, plan, seat, gate)
+    let report = run_shared(
+        &Shared {
+            alloc,
+            rt,
+            system,
+            common,
+            tables: &tables,
+            places: &places,
+        },
+        plan,
+        seat,
+        gate,
+    );
+    tables.end_with(&mut places);
+    report
 }
 
 /// A run over all that its threads share: they work, are joined, and the run is settled.
@@ -137,12 +143,14 @@ fn settle_joined<J: Run, R: Threads + Wait + Copy + Sync>(
     } = director;
     let processes = shared.system.processes().len();
     let mut own = Own::new(plan.alloc, reader, seat, processes, 1)?;
-    settle(
+    let report = settle(
         shared,
         &mut own,
         environment,
         time,
         plan.limit,
         plan.workers,
-    )
+    );
+    own.end_with(shared);
+    report
 }

@@ -38,8 +38,8 @@ pub fn run_rest<J: Run, R: Wait + Copy>(
         ready: all.ready,
         fuses: take_fuses(alloc, shared.rt, &shared.tables.wheel),
     };
-    // Whose number is in hand is entered, and so is ready.
-    own.hand.clear();
+    // Whose ticket is in hand is entered, and so is ready.
+    shared.queue_all(&mut own.hand);
     let lines = environment.lines();
     let heard = environment.line();
     let script = match lines.get(heard..) {

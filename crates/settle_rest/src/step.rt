@@ -37,7 +37,7 @@ impl<'w, 'l, 's, 'p, 'e, J: Run, R: Wait + Copy> Rest<'w, 'l, 's, 'p, 'e, J, R> 
             return Ok(Made::Nothing);
         };
         // The threads are joined, so the lock is free.
-        let mut guard = place.lock(shared.rt);
+        let mut guard = place.lock_joined(shared.rt);
         let Some(seated) = guard.as_mut() else {
             agenda.ready.rest(number);
             return Ok(Made::Nothing);
@@ -102,7 +102,10 @@ impl<'w, 'l, 's, 'p, 'e, J: Run, R: Wait + Copy> Rest<'w, 'l, 's, 'p, 'e, J, R> 
         ensures environment { self.new.environment ≡ self.old.environment }
         ensures given { self.old.given ≤ self.new.given }
     {
-        while let Some(number) = self.own.hand.pop_front() {
+        while let Some(ticket) = self.own.hand.pop_front() {
+            let number = ticket.number();
+            // No thread steps it any more. The hall keeps its ticket until the places have all of them back.
+            let _ = self.shared.queue(ticket);
             self.given = self.given.max(number);
             wake(&mut agenda.ready, number)?;
         }
@@ -110,7 +113,7 @@ impl<'w, 'l, 's, 'p, 'e, J: Run, R: Wait + Copy> Rest<'w, 'l, 's, 'p, 'e, J, R> 
     }
 }
 
-/// One step of an instance at this time. The fuses of its timers and the numbers of whom it has created are in this
+/// One step of an instance at this time. The fuses of its timers and the tickets of whom it has created are in this
 /// thread's hand then.
 fn step<'s, 'p, J: Run, R: Wait + Copy>(
     shared: &Shared<'_, 's, 'p, J, R>,

@@ -108,7 +108,7 @@ fn step<J: Run, R: Wait + Copy>(
     let Some(place) = shared.places.of(number) else {
         return;
     };
-    let mut guard = place.lock(shared.rt);
+    let mut guard = place.lock_joined(shared.rt);
     let Some(seated) = guard.as_mut() else {
         return;
     };

@@ -106,17 +106,23 @@ fn run_common<J: Run, R: Threads + Wait + Copy + Sync>(
 {
     let Plan { alloc, limit, .. } = plan;
     let system = &given.system;
+    let mut places = Places::new(alloc)?;
     let tables = Tables::new(alloc, system, 1, limit)?;
-    let places = Places::new(alloc)?;
-    let shared = Shared {
-        alloc,
-        rt,
-        system,
-        common,
-        tables: &tables,
-        places: &places,
-    };
-    run_shared(&shared, given, plan, seat)
+    let report = run_shared(
+        &Shared {
+            alloc,
+            rt,
+            system,
+            common,
+            tables: &tables,
+            places: &places,
+        },
+        given,
+        plan,
+        seat,
+    );
+    tables.end_with(&mut places);
+    report
 }
 
 /// A run over all that its threads would share.
@@ -131,9 +137,23 @@ fn run_shared<J: Run, R: Threads + Wait + Copy + Sync>(
     let alloc = plan.alloc;
     let reader = clock(alloc)?.reader;
     let mut own = Own::new(alloc, reader, seat, shared.system.processes().len(), 1)?;
+    let report = run_from_start(shared, &mut own, given, plan);
+    own.end_with(shared);
+    report
+}
+
+/// A run from its start, with what the one thread has for itself.
+fn run_from_start<J: Run, R: Threads + Wait + Copy + Sync>(
+    shared: &Shared<'_, '_, '_, J, R>,
+    own: &mut Own<J>,
+    given: &Given,
+    plan: Plan,
+) -> Result<Report, RunError>
+    requires { All IsOfEnv given.now.script.lines.items }
+{
     begin(shared, &mut own.seat)?;
-    let environment = Environment::new(alloc, given.script.lines.as_slice());
-    settle_by(shared, &mut own, environment, plan)
+    let environment = Environment::new(plan.alloc, given.script.lines.as_slice());
+    settle_by(shared, own, environment, plan)
 }
 
 /// Settles a run that has begun.

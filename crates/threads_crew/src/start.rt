@@ -32,11 +32,11 @@ fn begin_all<J: Run, R: Wait + Copy>(
 ) -> Result<(), AllocError> {
     for _ in 0..process.initial {
         let none = Values::none(shared.alloc);
-        let Some(number) = making::make(shared, seat, id, Pid::Null, none)? else {
+        let Some(ticket) = making::make(shared, seat, id, Pid::Null, none)? else {
             return Err(AllocError);
         };
         // No worker sleeps yet, so nobody is to be unparked.
-        let _ = shared.tables.queue(shared.rt, number)?;
+        let _ = shared.queue(ticket)?;
     }
     Ok(())
 }

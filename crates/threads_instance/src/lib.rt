@@ -10,6 +10,7 @@
 mod doings;
 mod effect_list;
 mod outbox;
+mod resting;
 mod runtime;
 mod sent;
 mod thread_instance;

@@ -5,7 +5,7 @@ use Rattle.std.proofs.lemmas.List.{get_or_append_left, get_or_push}
 use Rattle.crossbeam_utils.specs.Padded.{padded_value}
 use Rattle.crossbeam_utils.specs.declared.cache_padded.CachePadded.{CachePadded}
 use Rattle.threads_queue.specs.Places.{AreNumbered}
-use Rattle.threads_queue.specs.declared.places.Place.{Place}
+use Rattle.threads_queue.specs.declared.place.Place.{Place}
 
 module _ {T : Type 0} where
   abbrev pub number_of : CachePadded (Place T) → ℕ

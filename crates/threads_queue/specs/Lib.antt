@@ -1,3 +1,4 @@
 pub mod Hall
 pub mod Local
+pub mod Numbers
 pub mod Places

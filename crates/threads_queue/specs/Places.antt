@@ -2,7 +2,7 @@
 use Rattle.std.specs.Prelude.{◌≡◌, ℕ, Bool, ◌&&◌, ◌+◌, ◌<◌, List, length, nat_le, slice_index_or}
 use Rattle.crossbeam_utils.specs.Padded.{padded_value}
 use Rattle.crossbeam_utils.specs.declared.cache_padded.CachePadded.{CachePadded}
-use Rattle.threads_queue.specs.declared.places.Place.{Place}
+use Rattle.threads_queue.specs.declared.place.Place.{Place}
 
 -- whether there is a place of this number: each of 1 to 1,000 has one
 abbrev pub has_place : ℕ → Bool

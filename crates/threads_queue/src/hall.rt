@@ -1,9 +1,11 @@
 //! The common queue, and the workers that sleep.
 
-ghost use Rattle.std.specs.Prelude.{◌≡◌, ◌==◌, ◌≤◌, ◌+◌, ◌/◌, ◌++◌, ◌∷◌, ◌&&◌, [], IfOk, MatchResult, OnErr, OnOk, drop, false, length, max, min, take, true};
+ghost use Rattle.std.specs.Prelude.{◌≡◌, ◌==◌, ◌≤◌, ◌+◌, ◌/◌, ◌++◌, ◌∷◌, ◌&&◌, [], IfErr, IfOk, MatchResult, OnErr, OnOk, drop, false, length, max, min, take, true};
 ghost use Rattle.std.specs.VecDeque.{deque_capacity, deque_len};
 ghost use Rattle.threads_queue.specs.Hall.{AreAsleep, HallState, HasWork, IsExchanged, IsServed, IsTold, IsWoken, part, without};
 
+use crate::mark::Ticket;
+use crate::refused::{Refused, put};
 use std::alloc::{AllocError, Global};
 use std::collections::VecDeque;
 use std::marker::Model;
@@ -15,11 +17,11 @@ const MOST_NUMBERS: usize = 1_000;
 /// again, if it has so many jobs between.
 pub const MOST_TAKEN: usize = 61;
 
-/// The common queue of the numbers of those that have something to do, and who of the crew of workers sleeps. A lock is
-/// round it; each call is short, and takes no memory.
-#[derive(Drop)]
+/// The common queue of the tickets of those that have something to do, and who of the crew of workers sleeps. A lock is
+/// round it; each call is short, and takes no memory. In a clause each ticket is its number. It can't be let go, since
+/// no ticket can: its end is `into_queue`.
 pub struct Hall {
-    queue: VecDeque<u32>,
+    queue: VecDeque<Ticket>,
     asleep: Vec<usize>,
     crew: usize,
     closed: bool,
@@ -54,9 +56,11 @@ impl Hall {
     pub fn new(alloc: Global, crew: usize) -> Result<Self, AllocError>
         ensures { IfOk result (λ hall. hall ≡ record { queue = []; asleep = []; crew = crew; closed = false }) }
     {
+        let asleep = Vec::with_capacity(alloc, crew)?;
+        let queue = VecDeque::with_capacity(alloc, MOST_NUMBERS)?;
         Ok(Hall {
-            queue: VecDeque::with_capacity(alloc, MOST_NUMBERS)?,
-            asleep: Vec::with_capacity(alloc, crew)?,
+            queue,
+            asleep,
             crew,
             closed: false,
         })
@@ -69,17 +73,17 @@ impl Hall {
         self.crew = crew;
     }
 
-    /// Queues a number.
-    pub fn add(&mut self, number: u32) -> Result<(), AllocError>
-        ensures { MatchResult result (λ _. self.new ≡ record self.old { queue = self.old.queue ++ number ∷ [] })
+    /// Queues a ticket.
+    pub fn add(&mut self, ticket: Ticket) -> Result<(), Refused>
+        ensures queued { MatchResult result (λ _. self.new ≡ record self.old { queue = self.old.queue ++ ticket ∷ [] })
             (λ _. self.new ≡ self.old) }
+        ensures back { IfErr result (λ refused. refused ≡ ticket) }
     {
-        self.queue.push_back(number)?;
-        Ok(())
+        put(&mut self.queue, ticket)
     }
 
-    /// Queues all of these numbers, in their order. Refused for lack of memory: they stay where they are.
-    pub fn add_all(&mut self, numbers: &mut VecDeque<u32>) -> Result<(), AllocError>
+    /// Queues all of these tickets, in their order. Refused for lack of memory: they stay where they are.
+    pub fn add_all(&mut self, numbers: &mut VecDeque<Ticket>) -> Result<(), AllocError>
         ensures queued { OnOk result (self.new ≡ record self.old { queue = self.old.queue ++ numbers.old.items }) }
         ensures moved { OnOk result (numbers.new.items ≡ []) }
         ensures refused { OnErr result ((self.new ≡ self.old) × (numbers.new.items ≡ numbers.old.items)) }
@@ -89,7 +93,7 @@ impl Hall {
 
     /// Gives the worker `me`, whose own queue is empty, its next turn. It is noted as awake first, also where it woke by
     /// itself. Its part of the common queue goes into its own. Refused for lack of memory: both queues stay as they are.
-    pub fn turn(&mut self, me: usize, own: &mut VecDeque<u32>) -> Result<Turn, AllocError>
+    pub fn turn(&mut self, me: usize, own: &mut VecDeque<Ticket>) -> Result<Turn, AllocError>
         ensures told { IfOk result (λ turn. IsTold turn self.old self.new) }
         ensures numbers { IfOk result (λ turn. IsServed turn self.old own.old.items self.new own.new.items) }
         ensures work { IfOk result (λ turn. HasWork turn own.new.items) }
@@ -122,7 +126,7 @@ impl Hall {
     /// Has a worker look into the queue out of turn, whatever its own queue has, so that no number waits for ever: numbers
     /// from the queue's front come to its own front, as many as its part is, or more. As many of its own first ones go to
     /// the queue's end, if it has so many. Refused for lack of memory: both queues stay as they are.
-    pub fn exchange(&mut self, own: &mut VecDeque<u32>) -> Result<(), AllocError>
+    pub fn exchange(&mut self, own: &mut VecDeque<Ticket>) -> Result<(), AllocError>
         ensures exchanged { OnOk result (IsExchanged self.old own.old.items self.new own.new.items) }
         ensures refused { OnErr result ((self.new ≡ self.old) × (own.new.items ≡ own.old.items)) }
     {
@@ -137,7 +141,7 @@ impl Hall {
 
     /// Takes the first half of a worker's own queue, for one that sleeps, which is to be unparked. Refused for lack of
     /// memory: nothing has changed.
-    pub fn share(&mut self, own: &mut VecDeque<u32>) -> Result<Option<usize>, AllocError>
+    pub fn share(&mut self, own: &mut VecDeque<Ticket>) -> Result<Option<usize>, AllocError>
         ensures queue { OnOk result (self.new.queue ≡ self.old.queue ++ take (length own.old.items / 2) own.old.items) }
         ensures own { OnOk result (own.new.items ≡ drop (length own.old.items / 2) own.old.items) }
         ensures woken { IfOk result (λ wake. IsWoken wake self.old.asleep self.new.asleep) }
@@ -193,6 +197,20 @@ impl Hall {
         self.closed
     }
 
+    /// Its tickets, once the threads are joined.
+    pub fn into_queue(self) -> VecDeque<Ticket>
+        ensures items { result.items ≡ self.queue }
+        ensures len { deque_len result ≡ length self.queue }
+    {
+        let Hall {
+            queue,
+            asleep: _,
+            crew: _,
+            closed: _,
+        } = self;
+        queue
+    }
+
     /// Notes that the worker `me` is awake, also where it woke by itself.
     fn rouse(&mut self, me: usize)
         ensures { self.new ≡ record self.old { asleep = without me self.old.asleep } }
@@ -210,7 +228,7 @@ impl Hall {
     }
 
     /// Moves a worker's part of the queue to the end of its own. Refused for lack of memory: nothing has changed.
-    fn take(&mut self, own: &mut VecDeque<u32>) -> Result<(), AllocError>
+    fn take(&mut self, own: &mut VecDeque<Ticket>) -> Result<(), AllocError>
         ensures queue { OnOk result (self.new ≡ record self.old { queue = drop (part self.old.crew (length self.old.queue)) self.old.queue }) }
         ensures own { OnOk result (own.new.items ≡ own.old.items ++ take (part self.old.crew (length self.old.queue)) self.old.queue) }
         ensures refused { OnErr result ((self.new ≡ self.old) × (own.new.items ≡ own.old.items)) }
@@ -223,7 +241,7 @@ impl Hall {
 }
 
 /// Moves so many of the first numbers of one queue to the end of another, which has room for them.
-fn move_first(from: &mut VecDeque<u32>, to: &mut VecDeque<u32>, count: usize)
+fn move_first(from: &mut VecDeque<Ticket>, to: &mut VecDeque<Ticket>, count: usize)
     requires enough { count ≤ deque_len from.old }
     requires room { deque_len to.old + count ≤ deque_capacity to.old }
     ensures from { from.new.items ≡ drop count from.old.items }
@@ -234,15 +252,15 @@ fn move_first(from: &mut VecDeque<u32>, to: &mut VecDeque<u32>, count: usize)
     ensures to_capacity { deque_capacity to.new ≡ deque_capacity to.old }
 {
     for _moved in 0..count {
-        if let Some(number) = from.pop_front() {
-            to.push_back_reserved(number);
+        if let Some(ticket) = from.pop_front() {
+            to.push_back_reserved(ticket);
         }
     }
 }
 
 /// Moves so many of the first numbers of one queue to the front of another, which has room for them.
 #[tactic(auto, using(crate::proofs::Moving::turned))]
-fn move_to_front(from: &mut VecDeque<u32>, to: &mut VecDeque<u32>, count: usize)
+fn move_to_front(from: &mut VecDeque<Ticket>, to: &mut VecDeque<Ticket>, count: usize)
     requires enough { count ≤ deque_len from.old }
     requires room { deque_len to.old + count ≤ deque_capacity to.old }
     ensures from { from.new.items ≡ drop count from.old.items }

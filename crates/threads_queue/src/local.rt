@@ -5,6 +5,7 @@ ghost use Rattle.threads_queue.specs.Hall.{AreAsleep, HallState, IsTold, IsWoken
 ghost use Rattle.threads_queue.specs.Local.{HasMore};
 
 use crate::hall::{Hall, Turn};
+use crate::mark::Ticket;
 use std::alloc::{AllocError, Global};
 use std::collections::VecDeque;
 use std::sync::atomic::{AtomicU64, AtomicUsize, Ordering};
@@ -17,21 +18,36 @@ const MOST_NUMBERS: usize = 1_000;
 /// one moves them into the hall, so they don't wait for it. What the worker has in hand is in no queue.
 ///
 /// The order of locks: that of the hall comes first, then that of a local queue. Who has a local queue's waits for no other.
-#[derive(Drop)]
 pub struct LocalQueue {
-    numbers: Mutex<VecDeque<u32>>,
+    numbers: Mutex<VecDeque<Ticket>>,
     length: AtomicUsize,
     visits: AtomicU64,
 }
 
 impl LocalQueue {
-    /// An empty queue, to which its worker hasn't come yet. Refused for lack of memory.
-    pub fn new(alloc: Global) -> Result<Self, AllocError> {
-        Ok(LocalQueue {
-            numbers: Mutex::new(VecDeque::with_capacity(alloc, MOST_NUMBERS)?),
+    /// An empty queue, to which its worker hasn't come yet. It has no room yet, so it takes no memory.
+    pub fn new(alloc: Global) -> Self {
+        LocalQueue {
+            numbers: Mutex::new(VecDeque::new(alloc)),
             length: AtomicUsize::new(0),
             visits: AtomicU64::new(0),
-        })
+        }
+    }
+
+    /// Makes room for all numbers. Refused for lack of memory.
+    pub fn reserve<R: Wait>(&self, rt: &R) -> Result<(), AllocError> {
+        // Before and after: the same numbers are in the queue.
+        self.numbers.lock(rt).reserve(MOST_NUMBERS)
+    }
+
+    /// Its tickets, once the threads are joined.
+    pub fn into_queue(self) -> VecDeque<Ticket> {
+        let LocalQueue {
+            numbers,
+            length: _,
+            visits: _,
+        } = self;
+        numbers.into_inner()
     }
 
     /// How many numbers it has. A look, which may be late, since another worker may take them out. Where its own worker
@@ -51,7 +67,7 @@ impl LocalQueue {
     }
 
     /// Puts all that its worker has in hand at its end, in that order. Refused for lack of memory: it stays in hand.
-    pub fn put_all<R: Wait>(&self, rt: &R, hand: &mut VecDeque<u32>) -> Result<(), AllocError>
+    pub fn put_all<R: Wait>(&self, rt: &R, hand: &mut VecDeque<Ticket>) -> Result<(), AllocError>
         ensures moved { OnOk result (hand.new.items ≡ []) }
         ensures refused { OnErr result (hand.new.items ≡ hand.old.items) }
     {
@@ -65,7 +81,11 @@ impl LocalQueue {
 
     /// Puts all that its worker has in hand at its end, and takes out the first number of all for its next job. None: there
     /// is no number. Refused for lack of memory: nothing has changed.
-    pub fn next<R: Wait>(&self, rt: &R, hand: &mut VecDeque<u32>) -> Result<Option<u32>, AllocError>
+    pub fn next<R: Wait>(
+        &self,
+        rt: &R,
+        hand: &mut VecDeque<Ticket>,
+    ) -> Result<Option<Ticket>, AllocError>
         ensures moved { OnOk result (hand.new.items ≡ []) }
         ensures refused { OnErr result (hand.new.items ≡ hand.old.items) }
     {
@@ -150,7 +170,7 @@ impl LocalQueue {
     }
 
     /// Notes that its worker has come, and how many numbers there are now. The caller is that worker, and has the lock.
-    fn come(&self, numbers: &VecDeque<u32>) {
+    fn come(&self, numbers: &VecDeque<Ticket>) {
         // Before: so many visits as there were. After: one more. Only this thread adds, so who reads the same number twice
         // knows that the worker hasn't come between.
         self.visits.fetch_add(1, Ordering::SeqCst);
@@ -158,7 +178,7 @@ impl LocalQueue {
     }
 
     /// Notes how many numbers there are. The caller has the lock.
-    fn note(&self, numbers: &VecDeque<u32>) {
+    fn note(&self, numbers: &VecDeque<Ticket>) {
         // Before: the word is as it was when the lock was left last. After: as the queue is. Where it is so already it isn't
         // written, since others look at it.
         if self.len() != numbers.len() {
@@ -169,7 +189,10 @@ impl LocalQueue {
 
 /// Puts all in hand at the end of a queue, and takes out the first number of all. Refused for lack of memory: nothing has
 /// changed.
-fn first_of(queue: &mut VecDeque<u32>, hand: &mut VecDeque<u32>) -> Result<Option<u32>, AllocError>
+fn first_of(
+    queue: &mut VecDeque<Ticket>,
+    hand: &mut VecDeque<Ticket>,
+) -> Result<Option<Ticket>, AllocError>
     ensures first { IfOk result (λ first.
         queue.old.items ++ hand.old.items ≡ option_to_list first ++ queue.new.items) }
     ensures moved { OnOk result (hand.new.items ≡ []) }

@@ -13,10 +13,11 @@ use std::alloc::AllocError;
 use std::sync::Wait;
 use threads_instance::ThreadInstance;
 use threads_ports::NumberSeat;
+use threads_queue::Ticket;
 use threads_senders::Run;
 
 /// Makes an instance of a process, with these values of its parameters: at one moment it is entered, lives, and is in its
-/// place before its start, where it has something to do. Its number is the answer, and is the caller's to queue. None: as
+/// place before its start, where it has something to do. Its ticket is the answer, and is the caller's to queue. None: as
 /// many live as may, or all numbers are drawn.
 ///
 /// Refused for lack of memory: nobody is entered, and nobody lives who didn't before. The instance is made for the port of
@@ -28,7 +29,7 @@ pub fn make<J: Run, R: Wait + Copy>(
     process: ProcessId,
     parent: Pid,
     values: Values,
-) -> Result<Option<u32>, AllocError>
+) -> Result<Option<Ticket>, AllocError>
     ensures number { IfOk result (λ made. IfSome made (λ number. IsMade number seat.old.drawn seat.new.drawn)) }
     ensures none { IfOk result (λ made. IfNone made (IsSpent seat.old.drawn seat.new.drawn)) }
     ensures refused { OnErr result (IsSpent seat.old.drawn seat.new.drawn) }
@@ -45,8 +46,8 @@ pub fn make<J: Run, R: Wait + Copy>(
         return Ok(None);
     }
     let made = make_reserved(shared, seat, process, parent, values);
-    if let Ok(Some(number)) = made {
-        roster.live(process, number);
+    if let Ok(Some(ticket)) = &made {
+        roster.live(process, ticket.number());
         shared.tables.signs.note_version(&roster);
     } else {
         roster.release(process);
@@ -62,7 +63,7 @@ fn make_reserved<J: Run, R: Wait + Copy>(
     process: ProcessId,
     parent: Pid,
     values: Values,
-) -> Result<Option<u32>, AllocError>
+) -> Result<Option<Ticket>, AllocError>
     ensures number { IfOk result (λ made. IfSome made (λ number. IsMade number seat.old.drawn seat.new.drawn)) }
     ensures none { IfOk result (λ made. IfNone made (IsSpent seat.old.drawn seat.new.drawn)) }
     ensures refused { OnErr result (IsSpent seat.old.drawn seat.new.drawn) }
@@ -79,8 +80,8 @@ fn make_reserved<J: Run, R: Wait + Copy>(
     let Some(instance) = instance_of(shared, who, values)? else {
         return Ok(None);
     };
-    enter(shared, who, instance)?;
-    Ok(Some(pid))
+    let ticket = enter(shared, who, instance)?;
+    Ok(Some(ticket))
 }
 
 /// The instance in its seat. None: the port of the number has no owner to give.
@@ -110,13 +111,15 @@ fn instance_of<'s, 'p, J: Run, R: Wait + Copy>(
     }
 }
 
-/// Enters an instance: from now on a signal to its number reaches its port, and it is in its place.
+/// Enters an instance: from now on a signal to its number reaches its port, and it is in its place. The answer is its
+/// ticket.
 fn enter<'s, 'p, J: Run, R: Wait + Copy>(
     shared: &Shared<'_, 's, 'p, J, R>,
     who: Identity,
     instance: Seated<'s, 'p, J, R>,
-) -> Result<(), AllocError>
+) -> Result<Ticket, AllocError>
     requires { (0 < who.pid) × (who.pid ≤ 1000) }
+    ensures { IfOk result (λ ticket. ticket ≡ who.pid) }
 {
     let Identity {
         process,
@@ -134,8 +137,10 @@ fn enter<'s, 'p, J: Run, R: Wait + Copy>(
     if shared.common.entries.enter(entered).is_err() {
         return Err(AllocError);
     }
-    // Before: the instance is entered, and nobody is in its place. After: it is there and marked, and no queue has its
-    // number yet, so no other thread steps it. A signal that came between is in its port, and its first steps take it.
-    place.enter(shared.rt, instance);
-    Ok(())
+    // Before: the instance is entered, and nobody is in its place. After: it is there and marked, and the caller has its
+    // ticket, so no other thread steps it. A signal that came between is in its port, and its first steps take it.
+    match place.enter(shared.rt, instance) {
+        Some(ticket) => Ok(ticket),
+        None => Err(AllocError),
+    }
 }

@@ -2,7 +2,7 @@
 
 ghost use Rattle.std.specs.Prelude.{◌≡◌, [], IfOk, OnOk, replicate, true};
 
-use crate::{Addressees, Lookout, Tables};
+use crate::{Addressees, Lookout, Shared, Tables};
 use port_inbox::Fuse;
 use port_values::Ticks;
 use sdl_timers::Reader;
@@ -10,6 +10,7 @@ use std::alloc::{AllocError, Global};
 use std::collections::VecDeque;
 use std::sync::Wait;
 use threads_ports::NumberSeat;
+use threads_queue::Ticket;
 use threads_senders::Run;
 
 /// How many numbers a thread has room for in hand from the start: each number is in hand once at most.
@@ -17,14 +18,13 @@ const MOST_IN_HAND: usize = 1_000;
 
 /// The state that a thread of the run `J` has for itself: its reader of the clock, its seat for numbers, the numbers in
 /// its hand, the fuses of the step that it makes and to whom that has sent something, and what it has seen of who lives
-/// and of the other workers.
-#[derive(Drop)]
+/// and of the other workers. It can't be let go, since the tickets in its hand can't: its end is `end_with`.
 pub struct Own<J: Run> {
     pub reader: Reader,
     pub seat: NumberSeat<J>,
-    /// The numbers that this thread has, and that are in no queue yet: of those that its step has created or woken, and of
+    /// The tickets that this thread has, and that are in no queue yet: of those that its step has created or woken, and of
     /// its last job. A worker puts them into its local queue before it makes another step.
-    pub hand: VecDeque<u32>,
+    pub hand: VecDeque<Ticket>,
     /// How many jobs this thread has done since it asked the hall for numbers. A job of several turns counts as
     /// so many.
     pub jobs: usize,
@@ -61,11 +61,11 @@ impl<J: Run> Own<J> {
         ensures seen { IfOk result (λ own. (own.living.items ≡ replicate processes None) × (own.version ≡ 0)) }
         ensures moves { IfOk result (λ own. (own.moves ≡ 0) × (own.part ≡ part)) }
     {
-        let hand = VecDeque::with_capacity(alloc, MOST_IN_HAND)?;
         let mut living = Vec::with_capacity(alloc, processes)?;
         for _process in 0..processes {
             living.push(None)?;
         }
+        let hand = VecDeque::with_capacity(alloc, MOST_IN_HAND)?;
         Ok(Own {
             reader,
             seat,
@@ -119,5 +119,25 @@ impl<J: Run> Own<J> {
             }
         }
         Ok(())
+    }
+
+    /// Lets it go. What this thread has in hand goes into the hall.
+    pub fn end_with<R: Wait + Copy>(self, shared: &Shared<'_, '_, '_, J, R>) {
+        let Own {
+            reader: _,
+            seat: _,
+            hand,
+            jobs: _,
+            lookout: _,
+            fuses: _,
+            addressees: _,
+            living: _,
+            version: _,
+            moves: _,
+            part: _,
+        } = self;
+        let mut hand = hand;
+        shared.queue_all(&mut hand);
+        hand.destroy_empty();
     }
 }

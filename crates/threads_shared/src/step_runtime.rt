@@ -62,7 +62,7 @@ impl<'w, 'l, 's, 'p, J: Run, R: Wait + Copy> Runtime<J> for StepRuntime<'w, 'l, 
         self.own.fuses.push_reserved(fuse);
     }
 
-    /// A new instance has its start to make, so its number is in this thread's hand. Room for it there is made before
+    /// A new instance has its start to make, so its ticket is in this thread's hand. Room for it there is made before
     /// there is a number.
     fn create(
         &mut self,
@@ -72,10 +72,11 @@ impl<'w, 'l, 's, 'p, J: Run, R: Wait + Copy> Runtime<J> for StepRuntime<'w, 'l, 
     ) -> Result<Option<u32>, AllocError> {
         self.own.hand.reserve(1)?;
         let seat = &mut self.own.seat;
-        let Some(number) = making::make(self.shared, seat, process, Pid::Of(parent), values)? else {
+        let Some(ticket) = making::make(self.shared, seat, process, Pid::Of(parent), values)? else {
             return Ok(None);
         };
-        self.own.hand.push_back_reserved(number);
+        let number = ticket.number();
+        self.own.hand.push_back_reserved(ticket);
         Ok(Some(number))
     }
 }

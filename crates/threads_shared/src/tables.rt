@@ -9,13 +9,12 @@ use sdl_instances::Roster;
 use sdl_system::{ProcessId, System};
 use sdl_timers::Wheel;
 use std::alloc::{AllocError, Global};
-use std::collections::VecDeque;
 use std::sync::{Mutex, Wait};
-use threads_queue::{Hall, LocalQueue};
+use threads_queue::{Hall, LocalQueue, Places, Refused, Ticket};
 
 /// The tables of a run that all threads change: who lives, which fuses wait, who is to step next, and the words. Each
-/// worker has a local queue, by its place in the crew.
-#[derive(Drop)]
+/// worker has a local queue, by its place in the crew. They can't be let go, since the tickets in the queues can't: their
+/// end is `end_with`.
 pub struct Tables {
     pub roster: Mutex<Roster>,
     pub wheel: Mutex<Wheel>,
@@ -37,13 +36,38 @@ impl Tables {
         ensures workers { IfOk result (λ tables. workers_of tables.signs ≡ workers) }
         ensures locals { IfOk result (λ tables. vec_len tables.locals ≡ workers) }
     {
-        Ok(Tables {
-            roster: Mutex::new(Roster::new(alloc, system)?),
-            wheel: Mutex::new(Wheel::new(alloc)),
-            hall: Mutex::new(Hall::new(alloc, workers)?),
-            locals: locals_of(alloc, workers)?,
-            signs: Signs::new(limit, workers),
-        })
+        let roster = Roster::new(alloc, system)?;
+        let hall = Hall::new(alloc, workers)?;
+        match locals_of(alloc, workers) {
+            Ok(locals) => Ok(Tables {
+                roster: Mutex::new(roster),
+                wheel: Mutex::new(Wheel::new(alloc)),
+                hall: Mutex::new(hall),
+                locals,
+                signs: Signs::new(limit, workers),
+            }),
+            Err(refused) => {
+                hall.into_queue().destroy_empty();
+                Err(refused)
+            }
+        }
+    }
+
+    /// Lets the tables go, once the threads are joined: each ticket goes back to its place.
+    pub fn end_with<T: Drop>(self, places: &mut Places<T>) {
+        let Tables {
+            roster: _,
+            wheel: _,
+            hall,
+            locals,
+            signs: _,
+        } = self;
+        places.take_back_all(hall.into_inner().into_queue());
+        let mut locals = locals;
+        while let Some(local) = locals.pop() {
+            places.take_back_all(local.into_inner().into_queue());
+        }
+        locals.destroy_empty();
     }
 
     /// An instance of the process lives no more.
@@ -55,32 +79,17 @@ impl Tables {
         self.signs.note_version(&roster);
     }
 
-    /// Queues a number in the hall. The answer is a worker that sleeps, which is to be unparked.
-    pub fn queue<R: Wait>(&self, rt: &R, number: u32) -> Result<Option<usize>, AllocError> {
-        // Before: the number is the caller's, and is in no queue. After: it is in the hall's. Where a worker slept it is
+    /// Queues a ticket in the hall. The answer is a worker that sleeps, which is to be unparked. Refused for lack of
+    /// memory: nothing has changed.
+    pub fn queue<R: Wait>(&self, rt: &R, ticket: Ticket) -> Result<Option<usize>, Refused> {
+        // Before: the ticket is the caller's, and is in no queue. After: it is in the hall's. Where a worker slept it is
         // no longer noted as asleep, and the caller unparks it; where none did, each worker looks into the hall before it
         // sleeps, under this lock.
         let mut hall = self.hall.lock(rt);
-        hall.add(number)?;
+        hall.add(ticket)?;
         let wake = hall.sleeper();
         self.signs.note(&hall);
         Ok(wake)
-    }
-
-    /// Queues all of these numbers in the hall at once: who finds one of them there finds all that nobody has taken since.
-    /// The caller wakes workers then. Refused for lack of memory: they stay where they are.
-    pub fn queue_all<R: Wait>(
-        &self,
-        rt: &R,
-        numbers: &mut VecDeque<u32>,
-    ) -> Result<(), AllocError> {
-        // Before: the numbers are the caller's, and are in no queue. After: all are in the hall's. Workers that look into
-        // the hall find them, under this lock. Those that are noted as asleep stay so, until the caller takes one out and
-        // unparks it: it does so next, so the numbers aren't missed.
-        let mut hall = self.hall.lock(rt);
-        hall.add_all(numbers)?;
-        self.signs.note(&hall);
-        Ok(())
     }
 
     /// The local queue of this worker. None: the crew has no such worker.
@@ -145,13 +154,13 @@ impl Tables {
     }
 }
 
-/// The local queues of so many workers. Refused for lack of memory.
+/// The local queues of so many workers, all of them empty. Refused for lack of memory.
 fn locals_of(alloc: Global, workers: usize) -> Result<Vec<CachePadded<LocalQueue>>, AllocError>
     ensures { IfOk result (λ locals. vec_len locals ≡ workers) }
 {
     let mut locals = Vec::with_capacity(alloc, workers)?;
     for _worker in 0..workers {
-        locals.push(CachePadded::new(LocalQueue::new(alloc)?))?;
+        locals.push_reserved(CachePadded::new(LocalQueue::new(alloc)));
     }
     Ok(locals)
 }

@@ -9,7 +9,6 @@ use port_inbox::Fuse;
 use port_values::Ticks;
 use sdl_timers::Ticker;
 use std::alloc::{AllocError, Global};
-use std::collections::VecDeque;
 use std::sync::Wait;
 use threads_environment::Environment;
 use threads_senders::Run;
@@ -193,23 +192,14 @@ fn fire<J: Run, R: Wait + Copy>(shared: &Shared<'_, '_, '_, J, R>, to: Ticks) ->
     if fuse.due() <= to { Some(fuse) } else { None }
 }
 
-/// Wakes the instances of these numbers: the number of each that is in no queue goes into the hall's. Refused for lack of
-/// memory: some may be marked, with their numbers in no queue, so the run is to end without a report.
+/// Wakes the instances of these numbers. Refused for lack of memory: some may not be woken, so the run is to end without a
+/// report.
 fn wake_all<J: Run, R: Wait + Copy>(
     shared: &Shared<'_, '_, '_, J, R>,
     crew: Crew<'_>,
     woken: &[u32],
 ) -> Result<(), AllocError> {
-    let mut numbers = VecDeque::with_capacity(shared.alloc, woken.len())?;
-    for number in woken {
-        // A number may be there twice: it is queued at its first wake, and the second one finds it marked.
-        if is_to_queue(shared, *number) {
-            numbers.push_back(*number)?;
-        }
-    }
-    let count = numbers.len();
-    shared.tables.queue_all(shared.rt, &mut numbers)?;
-    for _ in 0..count {
+    for _ in 0..queue_all(shared, woken)? {
         let worker = shared.tables.sleeper(shared.rt);
         if worker.is_none() {
             break;
@@ -219,11 +209,32 @@ fn wake_all<J: Run, R: Wait + Copy>(
     Ok(())
 }
 
-/// Marks the instance of this number, for which something came. True: its number is in no queue, and is the caller's to
-/// queue.
-fn is_to_queue<J: Run, R: Wait + Copy>(shared: &Shared<'_, '_, '_, J, R>, number: u32) -> bool {
-    match shared.places.of(number) {
-        Some(place) => place.wake(),
-        None => false,
+/// Marks the instances of these numbers, for which something came, and queues the ticket of each that rested in the hall,
+/// all at once: who finds one of them there finds all that nobody has taken since. The answer is how many were queued; the
+/// caller wakes workers then. Refused for lack of memory: the place of the one that found no room has its ticket back.
+fn queue_all<J: Run, R: Wait + Copy>(
+    shared: &Shared<'_, '_, '_, J, R>,
+    woken: &[u32],
+) -> Result<usize, AllocError> {
+    // Before: those that rest have no ticket. After: the tickets of all of them are in the hall's queue. Workers that look
+    // into the hall find them, under this lock. Those that are noted as asleep stay so, until the caller takes one out and
+    // unparks it: it does so next, so the tickets aren't missed.
+    let mut hall = shared.tables.hall.lock(shared.rt);
+    let mut queued: usize = 0;
+    for number in woken {
+        // A number may be there twice: its ticket is queued at its first wake, and the second one finds it marked.
+        let Some(place) = shared.places.of(*number) else {
+            continue;
+        };
+        let Some(ticket) = place.wake() else {
+            continue;
+        };
+        if let Err(refused) = hall.add(ticket) {
+            shared.places.take_back(refused);
+            return Err(AllocError);
+        }
+        queued = queued.saturating_add(1);
     }
+    shared.tables.signs.note(&hall);
+    Ok(queued)
 }

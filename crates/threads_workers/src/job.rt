@@ -1,11 +1,14 @@
 //! A job of a worker: some steps of one instance.
 
+ghost use Rattle.std.specs.Prelude.{IfOk, IfSome};
+ghost use Rattle.threads_workers.specs.Left.{HasStepped, IsLeft};
+
 use crate::Gate;
 use run_record::{Receivers, Record};
 use sdl_interp::{Ahead, Stepped};
 use std::alloc::AllocError;
 use std::sync::Wait;
-use threads_queue::{LocalQueue, MOST_TAKEN, Place};
+use threads_queue::{LocalQueue, MOST_TAKEN, Ticket};
 use threads_senders::Run;
 use threads_shared::{Addressees, Own, Seated, Shared, StepRuntime};
 
@@ -37,32 +40,39 @@ enum Left {
     More,
 }
 
-/// Makes steps of the instance of this number, until it has nothing to do, ends, or has had its turn. The numbers that are
-/// to be queued then are in this worker's hand. Refused for lack of memory for the run's own tables.
+/// Makes steps of the instance that this ticket names, until it has nothing to do, ends, or has had its turn. The tickets
+/// that are to be queued then are in this worker's hand. Refused for lack of memory for the run's own tables: this one is
+/// there, too.
 pub fn steps_of<J: Run, R: Wait + Copy, G: Gate>(
     shared: &Shared<'_, '_, '_, J, R>,
     own: &mut Own<J>,
     local: &LocalQueue,
     gate: &G,
-    number: u32,
+    ticket: Ticket,
 ) -> Result<(), AllocError> {
-    let Some(place) = shared.places.of(number) else {
-        return Ok(());
-    };
-    // The number is this thread's, so the lock is free. It is left before the mark is set, so the next that has the number
+    // The ticket is this thread's, so the lock is free. It is left before the mark is set, so the next that has the ticket
     // finds it free, too.
-    match turns_at(shared, own, local, gate, place, number)? {
-        Left::Signals | Left::More => {
-            own.hand.push_back(number)?;
+    let place = shared.places.at(&ticket);
+    let mut guard = place.lock(shared.rt, &ticket);
+    match turns_at(shared, own, local, gate, &mut guard, ticket.number()) {
+        Ok(Left::Idle) => match place.rest(guard, ticket) {
+            Some(again) => shared.put(&mut own.hand, again),
+            None => Ok(()),
+        },
+        Ok(Left::Ended) => {
+            place.end(guard, ticket);
+            Ok(())
         }
-        Left::Idle => {
-            if place.rest() {
-                own.hand.push_back(number)?;
-            }
+        Ok(Left::Signals | Left::More) => {
+            drop(guard);
+            shared.put(&mut own.hand, ticket)
         }
-        Left::Ended => place.end(),
+        Err(refused) => {
+            drop(guard);
+            shared.put(&mut own.hand, ticket)?;
+            Err(refused)
+        }
     }
-    Ok(())
 }
 
 /// Whether a worker that has so many numbers is to look into the hall, whatever its local queue has. With one alone it does
@@ -88,21 +98,36 @@ pub fn count_job<J: Run>(own: &mut Own<J>) {
     own.lookout.jobs = own.lookout.jobs.saturating_add(1);
 }
 
-/// The turn of who is in the place, and more turns while signals wait for it and this worker has no other number: as if
-/// its number had gone into this worker's local queue, and had come out again. Each counts as a job, so what waits in the
-/// hall or for a worker that isn't run waits no longer for that.
+/// The turns of who is in a place, if somebody is.
 fn turns_at<'s, 'p, J: Run, R: Wait + Copy, G: Gate>(
     shared: &Shared<'_, 's, 'p, J, R>,
     own: &mut Own<J>,
     local: &LocalQueue,
     gate: &G,
-    place: &Place<Seated<'s, 'p, J, R>>,
+    kept: &mut Option<Seated<'s, 'p, J, R>>,
     number: u32,
-) -> Result<Left, AllocError> {
-    let mut guard = place.lock(shared.rt);
-    let Some(seated) = guard.as_mut() else {
-        return Ok(Left::Ended);
-    };
+) -> Result<Left, AllocError>
+    ensures { IfOk result (λ left. IfSome kept.new (λ seated. IsLeft left seated.value.instance)) }
+{
+    match kept {
+        Some(seated) => turns_of(shared, own, local, gate, seated, number),
+        None => Ok(Left::Ended),
+    }
+}
+
+/// A turn of an instance, and more turns while signals wait for it and this worker has no other number: as if its number
+/// had gone into this worker's local queue, and had come out again. Each counts as a job, so what waits in the hall or for
+/// a worker that isn't run waits no longer for that.
+fn turns_of<'s, 'p, J: Run, R: Wait + Copy, G: Gate>(
+    shared: &Shared<'_, 's, 'p, J, R>,
+    own: &mut Own<J>,
+    local: &LocalQueue,
+    gate: &G,
+    seated: &mut Seated<'s, 'p, J, R>,
+    number: u32,
+) -> Result<Left, AllocError>
+    ensures { IfOk result (λ left. IsLeft left seated.new.value.instance) }
+{
     for _ in 0..JOBS_PER_LOOK {
         let left = turn(shared, own, local, gate, seated, number)?;
         if left != Left::Signals || has_others(own, local) || is_to_look(shared, own, 1) {
@@ -127,7 +152,9 @@ fn turn<'s, 'p, J: Run, R: Wait + Copy, G: Gate>(
     gate: &G,
     seated: &mut Seated<'s, 'p, J, R>,
     number: u32,
-) -> Result<Left, AllocError> {
+) -> Result<Left, AllocError>
+    ensures { IfOk result (λ left. IsLeft left seated.new.value.instance) }
+{
     let mut ahead = Ahead::Perhaps;
     for made in 0..STEPS_PER_TURN {
         if shared.tables.signs.is_closed() || is_to_share(shared, own, local, made) {
@@ -171,11 +198,14 @@ fn is_to_share<J: Run, R: Wait + Copy>(
 
 /// One step of an instance, with all that comes after it: its fuses go into the wheel, whom it has sent something is woken,
 /// and who has ended lives no more.
+#[tactic(auto, using(crate::proofs::Stepping::has_stepped))]
 pub fn step<'s, 'p, J: Run, R: Wait + Copy>(
     shared: &Shared<'_, 's, 'p, J, R>,
     own: &mut Own<J>,
     seated: &mut Seated<'s, 'p, J, R>,
-) -> Result<Stepped, AllocError> {
+) -> Result<Stepped, AllocError>
+    ensures { IfOk result (λ stepped. HasStepped stepped seated.new.value.instance) }
+{
     let told = seated.trace().len();
     let time = own.reader.now();
     own.addressees = Addressees::Nobody;
@@ -243,7 +273,8 @@ fn wake_all<J: Run, R: Wait + Copy>(
     Ok(())
 }
 
-/// Wakes the instance of this number: where its number is in no queue, it is in this thread's hand then.
+/// Wakes the instance of this number: where it rests, its ticket is in this thread's hand then. Room for it there is made
+/// before there is a ticket.
 fn wake<J: Run, R: Wait + Copy>(
     shared: &Shared<'_, '_, '_, J, R>,
     own: &mut Own<J>,
@@ -252,8 +283,9 @@ fn wake<J: Run, R: Wait + Copy>(
     let Some(place) = shared.places.of(number) else {
         return Ok(());
     };
-    if place.wake() {
-        own.hand.push_back(number)?;
+    own.hand.reserve(1)?;
+    if let Some(ticket) = place.wake() {
+        own.hand.push_back_reserved(ticket);
     }
     Ok(())
 }

@@ -43,18 +43,33 @@ fn rounds<J: Run, R: Wait + Copy, G: Gate>(
     let Some(local) = shared.tables.local(me) else {
         return Err(AllocError);
     };
-    let workers = crew.workers.len();
     let processes = shared.system.processes().len();
-    let part = shared.tables.signs.part(workers);
+    let part = shared.tables.signs.part(crew.workers.len());
     let mut own = Own::new(shared.alloc, reader, seat, processes, part)?;
-    own.lookout = Lookout::new(shared.alloc, workers)?;
+    let worked = rounds_of(shared, crew, gate, me, parker, &mut own, local);
+    own.end_with(shared);
+    worked
+}
+
+/// Makes rounds until the run is over, with what this worker has for itself.
+fn rounds_of<J: Run, R: Wait + Copy, G: Gate>(
+    shared: &Shared<'_, '_, '_, J, R>,
+    crew: Crew<'_>,
+    gate: &G,
+    me: usize,
+    parker: &Parker<Global>,
+    own: &mut Own<J>,
+    local: &LocalQueue,
+) -> Result<(), AllocError> {
+    own.lookout = Lookout::new(shared.alloc, crew.workers.len())?;
+    local.reserve(shared.rt)?;
     for _ in shared.rt.forever() {
-        if !round(shared, crew, gate, me, parker, &mut own, local)? {
+        if !round(shared, crew, gate, me, parker, own, local)? {
             break;
         }
     }
     // Once all workers have ended, the sum has all transitions.
-    tell_moves(shared, &mut own);
+    tell_moves(shared, own);
     Ok(())
 }
 
@@ -73,9 +88,9 @@ fn round<J: Run, R: Wait + Copy, G: Gate>(
         return Ok(false);
     }
     help(shared, crew, own, local)?;
-    if let Some(number) = local.next(shared.rt, &mut own.hand)? {
+    if let Some(ticket) = local.next(shared.rt, &mut own.hand)? {
         count_job(own);
-        steps_of(shared, own, local, gate, number)?;
+        steps_of(shared, own, local, gate, ticket)?;
         return Ok(true);
     }
     tell_moves(shared, own);
@@ -179,7 +194,8 @@ fn share<J: Run, R: Wait + Copy>(
     Ok(wake)
 }
 
-/// Sees to it that all others end, too. What this worker has queued stays there: the instances are in their places.
+/// Sees to it that all others end, too. What this worker has queued stays there: the instances are in their places, and who
+/// has the run then gives the tickets back.
 fn end<J: Run, R: Wait + Copy>(shared: &Shared<'_, '_, '_, J, R>, crew: Crew<'_>) {
     crew.wake(shared.tables.close(shared.rt));
     crew.director.unpark();

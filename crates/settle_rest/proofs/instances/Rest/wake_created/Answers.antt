@@ -1,9 +1,9 @@
 use Rattle.std.proofs.Common.{arith}
 use Rattle.settle_rest.proofs.instances.Rest.wake_created.Goals as goal
 
-pub loop-number-preserved : goal.loop-number-preserved
-loop-number-preserved g c =
-    let so_far = c.loop-number.invariant in
+pub loop-ticket-preserved : goal.loop-ticket-preserved
+loop-ticket-preserved g c =
+    let so_far = c.loop-ticket.invariant in
     record {
       numbers = λ are. c.wake.ensures.numbers (so_far.numbers are);
       kept = λ n there. c.wake.ensures.kept n (so_far.kept n there);
@@ -14,7 +14,7 @@ loop-number-preserved g c =
     }
 
 pub returns-in_err-wake-clause-numbers : goal.returns-in_err-wake-clause-numbers
-returns-in_err-wake-clause-numbers g c = λ are. c.wake.ensures.numbers (c.loop-number.invariant.numbers are)
+returns-in_err-wake-clause-numbers g c = λ are. c.wake.ensures.numbers (c.loop-ticket.invariant.numbers are)
 
 pub returns-in_err-wake-clause-kept : goal.returns-in_err-wake-clause-kept
-returns-in_err-wake-clause-kept g c = λ n there. c.wake.ensures.kept n (c.loop-number.invariant.kept n there)
+returns-in_err-wake-clause-kept g c = λ n there. c.wake.ensures.kept n (c.loop-ticket.invariant.kept n there)

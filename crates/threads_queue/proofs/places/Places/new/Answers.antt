@@ -1,7 +1,7 @@
 -- The next place has the next number.
 use Rattle.std.proofs.Common.{◌≡◌, ◌∙◌, ap, length, rules}
 use Rattle.threads_queue.proofs.Numbering.{numbered_more}
-use Rattle.threads_queue.specs.declared.places.Place.{Place}
+use Rattle.threads_queue.specs.declared.place.Place.{Place}
 use Rattle.threads_queue.proofs.places.Places.new.Goals as goal
 
 pub loop-place-preserved : goal.loop-place-preserved

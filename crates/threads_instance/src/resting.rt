@@ -1,0 +1,16 @@
+//! What the mark of its place asks of an instance.
+
+use crate::ThreadInstance;
+use port_inbox::Inbox;
+use threads_queue::Rests;
+use threads_senders::Run;
+
+impl<'s, J: Run, P: Inbox + Drop> Rests for ThreadInstance<'s, J, P> {
+    ghost use Rattle.std.specs.Prelude.{◌≡◌};
+    ghost use Rattle.run_transitions.specs.declared.machine.Position.TheVariants as at;
+    ghost use Rattle.sdl_interp.specs.Instance.{IsAtRest};
+
+    ghost at_rest = { λ m. IsAtRest m.instance };
+
+    ghost ended = { λ m. m.instance.position ≡ at.Ended };
+}
