@@ -101,6 +101,23 @@ inline hall_relieve(worker, one) {
     set_signs()
 }
 
+/* own.rt: Own::end_with. Shared::queue_all, under the hall's lock: what a worker that ends has in hand goes to the end of
+   the hall's queue. Those that sleep stay among those that sleep. */
+inline leave_hand() {
+    if
+    :: atomic { nempty(hand[me]) ->
+        move_all(hand[me], hall);
+#ifdef BUG_HAND_UNTOLD
+        /* One that sleeps is taken out, and is told nothing. */
+        take_sleeper(other);
+        other = NOBODY;
+#endif
+        set_signs()
+       }
+    :: empty(hand[me])
+    fi
+}
+
 /* tables.rt: Tables::close. The word, and then a section under the hall's lock. */
 inline close(one) {
     signs_closed = true;

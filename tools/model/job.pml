@@ -156,7 +156,14 @@ wakes:
 counts:
 #if FAILS
     if
-    :: atomic { fails > 0 -> fails--; locked[number] = false } -> goto failed
+    /* job.rt: steps_of. The lock is left, and then its number is in this worker's hand. */
+    :: atomic { fails > 0 ->
+        fails--;
+        locked[number] = false;
+        note_job(0);
+        put_number(hand[me], number);
+        number = 0
+       } -> goto failed
     :: true
     fi;
 #endif

@@ -211,6 +211,7 @@ parks:
 #include "job.pml"
 
 failed:
+    leave_hand();
     /* worker.rt: work. Tables::fail */
     signs_failed = true;
 ends:
@@ -237,5 +238,6 @@ gone:
     :: count == 0
     fi;
 #endif
+    leave_hand();
     done++
 }
