@@ -13,8 +13,9 @@ use threads_senders::Run;
 use threads_shared::{Addressees, Own, Seated, Shared, StepRuntime};
 
 /// How many steps a turn has at most, so that all that have something to do get theirs: the others of a worker's local
-/// queue after it, and those in the hall when the worker looks there, after so many jobs.
-const STEPS_PER_TURN: u32 = 32;
+/// queue after it, and those in the hall when the worker looks there, after so many jobs. The fewer, the sooner others find
+/// what waits for a worker that isn't run. Its steps share the two locks of a job, that of the place and that of the queue.
+const STEPS_PER_TURN: u32 = 16;
 
 /// After so many steps of a turn a worker looks whether another one has no number.
 const STEPS_PER_LOOK: u32 = 8;
