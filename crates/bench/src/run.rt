@@ -8,9 +8,8 @@ use crate::measure::Done;
 use crate::parts::Stopwatch;
 use run_record::Report;
 use sdl_build::build;
-use sdl_engine::{Command, Options, Outcome, View, run_text};
+use sdl_engine::{Command, Options, Outcome, Runner, Threaded, View, run_text};
 use sdl_parse::parse;
-use sdl_report::write_report;
 use sdl_script::{Script, read_script};
 use sdl_system::System;
 use sdl_workers::{run, run_serial};
@@ -19,7 +18,6 @@ use std::io::{self, Write};
 use std::sync::Wait;
 use std::thread::Threads;
 use std::time::{Clock, Instant};
-use threads_report::write_report_by_workers;
 
 /// The line between a specification and its script.
 const MARK: &str = "%script\n";
@@ -57,7 +55,7 @@ pub fn written<R: Threads + Wait + Copy + Send + Sync>(
     };
     let mut reader = text;
     let mut counter = Counter { bytes: 0 };
-    match run_text(rt, alloc, &mut reader, &mut counter, &options) {
+    match run_text(&Threaded { rt }, alloc, &mut reader, &mut counter, &options) {
         Ok(Outcome::Whole) => Ok(counter.bytes),
         _ => Err(Fault::Text),
     }
@@ -151,7 +149,7 @@ fn report_of<R: Clock + Threads + Wait + Copy + Send + Sync>(
 }
 
 /// Makes the text of a report, and tells how many bytes it has.
-fn bytes<R: Threads + Sync>(
+fn bytes<R: Threads + Wait + Copy + Send + Sync>(
     rt: &R,
     alloc: Global,
     system: &System,
@@ -159,18 +157,8 @@ fn bytes<R: Threads + Sync>(
     workers: Option<u8>,
 ) -> Result<u64, Fault> {
     let mut counter = Counter { bytes: 0 };
-    let written = match workers {
-        None => write_report(alloc, report, system, &mut counter),
-        Some(workers) => write_report_by_workers(
-            rt,
-            alloc,
-            usize::from(workers),
-            report,
-            system,
-            &mut counter,
-        ),
-    };
-    match written {
+    let runner = Threaded { rt };
+    match runner.write_report(alloc, workers, report, system, &mut counter) {
         Ok(()) => Ok(counter.bytes),
         Err(_) => Err(Fault::Memory),
     }

@@ -5,7 +5,8 @@ ghost use Rattle.std.specs.Prelude.{◌≡◌};
 
 use crate::case::Answer;
 use sdl_engine::{
-    Names, Notes, Options, Outcome, Source, TextFault, run_and_note, run_text, suspicions_of,
+    Names, Nobody, Notes, Options, Outcome, Source, TextFault, Threaded, run_and_note, run_text,
+    suspicions_of,
 };
 use sdl_input::Texts;
 use std::alloc::{AllocError, Global};
@@ -26,7 +27,7 @@ pub fn answer_of<T: Threads + Wait + Copy + Send + Sync>(
 {
     let mut reader = input;
     let mut output = Vec::new(alloc);
-    let outcome = run_text(rt, alloc, &mut reader, &mut output, options);
+    let outcome = run_text(&Threaded { rt }, alloc, &mut reader, &mut output, options);
     let status = status_of(&outcome);
     Answer { status, output }
 }
@@ -91,7 +92,16 @@ pub fn noted_answer<T: Threads + Wait + Copy + Send + Sync>(
         script: None::<&[u8]>,
     };
     let mut output = Vec::new(alloc);
-    let outcome = run_and_note(rt, alloc, &mut source, &mut output, notes, options);
+    let runner = Threaded { rt };
+    let outcome = run_and_note(
+        &runner,
+        alloc,
+        &mut source,
+        &mut output,
+        notes,
+        options,
+        Nobody,
+    );
     let status = status_of(&outcome);
     Answer { status, output }
 }

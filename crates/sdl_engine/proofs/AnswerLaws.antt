@@ -1,5 +1,5 @@
 -- What the calls of a command give, put together into what is said of the input.
-use Rattle.std.proofs.Common.{◌≡◌, sym, subst, refl, inl, inr, ℕ, List, Option, None, Some, Bool, true, false, Result, Ok, Err, IfOk, IfErr, OnOk}
+use Rattle.std.proofs.Common.{◌≡◌, ap, sym, subst, refl, inl, inr, ℕ, List, Option, None, Some, Bool, true, false, Result, Ok, Err, IfOk, IfErr, OnOk}
 use Rattle.std.specs.Io.KnownBytes.{Appends}
 use Rattle.sdl_input.specs.Input.{IsRead}
 use Rattle.sdl_input.specs.declared.input.Input.{Input}
@@ -13,7 +13,7 @@ use Rattle.run_record.specs.declared.run_error.RunError.{RunError}
 use Rattle.run_record.specs.declared.run_error.RunError.TheVariants as run
 use Rattle.sdl_script.specs.declared.script.ScriptLine.{ScriptLine}
 use Rattle.sdl_system.specs.System.{SystemValue}
-use Rattle.sdl_engine.specs.Answer.{Allows, AllowsOfRun, BreaksOff, BreaksOffRun, BreaksOffTelling, FailsToTell, FailsToTellRun, Faulted, Fails, IsRunOfInput, IsRunRefused, PrintsInput, Refuses, Says, SaysCut, SaysWhole, Tells, TellsRun, Written, fault_of, outcome_by, outcome_of}
+use Rattle.sdl_engine.specs.Answer.{Allows, AllowsOfRun, BreaksOff, BreaksOffRun, BreaksOffTelling, FailsToTell, FailsToTellRun, Faulted, Fails, IsRunOfInput, IsRunRefused, IsSerial, PrintsInput, Refuses, Says, SaysCut, SaysWhole, Tells, TellsRun, Written, carried, fault_of, outcome_by, outcome_of, workers_by}
 use Rattle.sdl_engine.specs.RefusalText.{refusal_line}
 use Rattle.sdl_engine.specs.Views.{IsTold}
 use Rattle.sdl_engine.specs.declared.options.Command.{Command}
@@ -26,6 +26,16 @@ use Rattle.sdl_engine.specs.declared.options.TextFault.TheVariants as fault
 use Rattle.sdl_engine.specs.declared.options.View.{View}
 use Rattle.sdl_engine.specs.declared.refusal.Refusal.{Refusal}
 use Rattle.sdl_engine.specs.declared.refusal.Refusal.TheVariants as refusal
+
+-- options that ask for no thread are carried out the same without threads
+workers_same : (how : Command) (asked : Option ℕ) → (how ≡ command.Run → asked ≡ None) →
+    workers_by false how asked ≡ asked
+workers_same command.Check asked serial = refl
+workers_same command.Run asked serial = sym (serial refl)
+
+pub carried_same : (options : Options) → IsSerial options → carried false options ≡ options
+carried_same options serial =
+    ap (λ (w : Option ℕ). record options { workers = w }) (workers_same options.command options.workers serial)
 
 -- what tells a run is what is said of its input
 pub run_says : (input : Input) (options : Options) (workers : Option ℕ) (system : SystemValue) (report : Report)
@@ -72,11 +82,12 @@ pub check_allows : (workers : Option ℕ) (input : Input) (refused : Refusal) �
 check_allows workers (Held texts) refused allowed = allowed
 check_allows workers TooLong refused allowed = allowed
 
--- with workers a run may tell either of itself
-pub run_allows : (workers : ℕ) (texts : Texts) (error : RunError) → IsRunRefused texts →
-    AllowsOfRun (Some workers) texts error
-run_allows workers texts run.Memory refused = refused
-run_allows workers texts (run.Lost number) refused = refused
+-- with workers a run may tell either of itself, without them lack of memory alone
+pub run_allows : (workers : Option ℕ) (texts : Texts) (error : RunError) → (workers ≡ None → error ≡ run.Memory) →
+    IsRunRefused texts → AllowsOfRun workers texts error
+run_allows None texts error only refused = subst (λ e. AllowsOfRun None texts e) (sym (only refl)) refused
+run_allows (Some workers) texts run.Memory only refused = refused
+run_allows (Some workers) texts (run.Lost number) only refused = refused
 
 says_refused : (input : Input) (options : Options) (why : Refusal) (line : List ℕ) →
     Refuses options.command options.workers input (outcome_of why) line → Says input options (outcome_of why) line

@@ -103,6 +103,16 @@ pub record Prints (texts : Texts) (text : List ℕ) : Type 0 where
 abbrev pub IsSerial : Options → Type 0
 IsSerial options = options.command ≡ command.Run → options.workers ≡ None
 
+-- The workers of a command for which so many are asked, by whether there are threads: without threads a run has none.
+abbrev pub workers_by : Bool → Command → Option ℕ → Option ℕ
+workers_by true how asked = asked
+workers_by false command.Check asked = asked
+workers_by false command.Run asked = None
+
+-- the options as they are carried out with threads, or without
+abbrev pub carried : Bool → Options → Options
+carried threaded options = record options { workers = workers_by threaded options.command options.workers }
+
 -- Notes have nothing to say of the order: it is asked for of a run alone, and the trace doesn't tell it.
 abbrev pub TellsNoOrder : Options → Type 0
 TellsNoOrder options = options.command ≡ command.Run → options.view ≡ views.Trace

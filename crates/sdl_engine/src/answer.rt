@@ -10,20 +10,22 @@ use crate::options::{Options, Outcome, TextFault, View};
 use crate::refusal::Refusal;
 use crate::refusal_text::{fixed_line, refusal_line};
 use crate::run::Run;
-use crate::views::{write_view, write_view_by_workers};
+use crate::runner::Runner;
+use crate::views::write_view;
 use sdl_report::write_text;
 use std::alloc::Global;
 use std::io::Write;
-use std::thread::Threads;
 
 /// Writes a run in the view that is asked for, and then notes what there is to say of it.
-pub fn report<W: Write, N: Write>(
+pub fn report<E: Runner, W: Write, N: Write>(
+    runner: &E,
     alloc: Global,
     run: &Run,
     writer: &mut W,
     notes: &mut Notes<'_, N>,
     options: &Options,
 ) -> Result<Outcome, TextFault>
+    requires { E.may_lend }
     ensures how { IfOk result (λ how. how ≡ outcome_by run.now.report.whole) }
     ensures ok { OnOk result (TellsRun options.now.view run.now.system run.now.report run.now.script.lines.items
         notes.new.stuck (W.contents writer.old) (W.contents writer.new)) }
@@ -32,32 +34,7 @@ pub fn report<W: Write, N: Write>(
     ensures quiet { result ≢ Ok Outcome.Cut → options.now.view ≡ View.Trace →
         Keeps (N.contents notes.old.writer) (N.contents notes.new.writer) }
 {
-    let stuck = write_view(alloc, run, options.view, writer)?;
-    let outcome = outcome(run.report.whole);
-    note_run(alloc, run, outcome, stuck, notes);
-    Ok(outcome)
-}
-
-/// Writes a run in the view that is asked for; so many workers make the text of its report. Then it notes what there is
-/// to say of it.
-pub fn report_by_workers<T: Threads + Sync, W: Write, N: Write>(
-    rt: &T,
-    alloc: Global,
-    workers: u8,
-    run: &Run,
-    writer: &mut W,
-    notes: &mut Notes<'_, N>,
-    options: &Options,
-) -> Result<Outcome, TextFault>
-    ensures how { IfOk result (λ how. how ≡ outcome_by run.now.report.whole) }
-    ensures ok { OnOk result (TellsRun options.now.view run.now.system run.now.report run.now.script.lines.items
-        notes.new.stuck (W.contents writer.old) (W.contents writer.new)) }
-    ensures err { IfErr result (λ fault. FailsToTellRun fault options.now.view run.now.system run.now.report
-        run.now.script.lines.items (W.contents writer.old) (W.contents writer.new)) }
-    ensures quiet { result ≢ Ok Outcome.Cut → options.now.view ≡ View.Trace →
-        Keeps (N.contents notes.old.writer) (N.contents notes.new.writer) }
-{
-    let stuck = write_view_by_workers(rt, alloc, workers, run, options.view, writer)?;
+    let stuck = write_view(runner, alloc, run, options.view, options.workers, writer)?;
     let outcome = outcome(run.report.whole);
     note_run(alloc, run, outcome, stuck, notes);
     Ok(outcome)

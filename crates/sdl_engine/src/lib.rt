@@ -2,9 +2,10 @@
 //! canonical text, a run, or the one line that refuses the text. A run is told by its report, or in its order, as lines
 //! or as JSON. `run_and_note` does the same for a text and a script of its own, and tells a human more: why a text is
 //! refused, what cut a run, which instances failed. It keeps the run that was told, with its texts, if that is asked for.
-//! `run_text_serially` and `run_and_note_serially` do it without threads, so they always return.
+//! Both are told who makes the steps of a run (`Runner`): `Serial` has no threads, and with it they always return;
+//! `Threaded` has threads for workers.
 //!
-//! The theorem of the tool is the contract of `run_text`; the other three have the same clauses. What is below it: an
+//! The theorem of the tool is the contract of `run_text`; `run_and_note` has the same clauses. What is below it: an
 //! input that is read (`reading`), the way from there to a text or a run (`pipeline`), what is written of either
 //! (`answer`), of a run by the view (`views`, `order`), and what a human is told beside (`notes`, `explained`).
 #![tactic(auto)]
@@ -19,8 +20,10 @@ mod reading;
 mod refusal;
 mod refusal_text;
 mod run;
+mod runner;
 mod serial;
 mod text;
+mod threaded;
 mod views;
 mod warned;
 
@@ -30,8 +33,10 @@ pub use order::{Order, order_of};
 pub use refusal::Refusal;
 pub use refusal_text::{fixed_line, refusal_line};
 pub use run::Run;
+pub use runner::Runner;
 pub use sdl_input::Source;
-pub use serial::{run_and_note_serially, run_text_serially};
+pub use serial::Serial;
 pub use serial_run::{Listener, Nobody};
 pub use text::{run_and_note, run_text};
+pub use threaded::Threaded;
 pub use warned::suspicions_of;

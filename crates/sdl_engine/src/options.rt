@@ -1,7 +1,7 @@
 //! What is asked for, and what came of it.
 
-ghost use Rattle.std.specs.Prelude.{◌↔◌, IsTrue};
-ghost use Rattle.sdl_engine.specs.Answer.{IsSerial};
+ghost use Rattle.std.specs.Prelude.{◌≡◌, ◌↔◌, IsTrue, false};
+ghost use Rattle.sdl_engine.specs.Answer.{IsSerial, carried};
 
 use sdl_report::WriteFault;
 use thiserror::Error;
@@ -32,7 +32,8 @@ pub struct Options {
     pub command: Command,
     /// How a run is told. A check has no use for it.
     pub view: View,
-    /// How many worker threads run the instances, from 1 to 16. None: the run is serial. A check starts none.
+    /// How many worker threads run the instances, from 1 to 16. None: the run is serial. A check starts none, nor does
+    /// who has no threads: then each run is serial.
     pub workers: Option<u8>,
     /// The number of transitions at which a run is cut, from 1 to 1,000,000,000.
     pub limit: u64,
@@ -48,9 +49,12 @@ impl Options {
     /// The most workers.
     pub const MOST_WORKERS: u8 = 16;
 
-    /// Whether no thread is asked for: this is a check, or a run without workers.
+    /// Whether no thread is asked for: this is a check, or a run without workers. Then it is carried out the same
+    /// without threads as with them.
+    #[tactic(auto, using(crate::proofs::AnswerLaws::carried_same))]
     pub fn is_serial(&self) -> bool
-        ensures { IsTrue result ↔ IsSerial self.now }
+        ensures serial { IsTrue result ↔ IsSerial self.now }
+        ensures same { IsTrue result → carried false self.now ≡ self.now }
     {
         self.command == Command::Check || self.workers.is_none()
     }

@@ -1,13 +1,14 @@
 //! An input taken, checked and run: from its bytes to the canonical text of its specification, or to a report.
 
-ghost use Rattle.std.specs.Prelude.{◌≡◌, IfOk, IfErr, None, Some};
+ghost use Rattle.std.specs.Prelude.{◌≡◌, IfOk, IfErr, None};
 ghost use Rattle.std.specs.String.{string_bytes};
 ghost use Rattle.sdl_tree.specs.Views.{tree_value};
-ghost use Rattle.sdl_engine.specs.Answer.{Allows, AllowsOf, IsAccepted, IsRunOf, IsRunOfInput, IsTextRefused, Prints, PrintsInput};
+ghost use Rattle.sdl_engine.specs.Answer.{Allows, AllowsOf, IsAccepted, IsRunOf, IsRunOfInput, IsTextRefused, Prints, PrintsInput, workers_by};
 
-use crate::options::Command;
+use crate::options::{Command, Options};
 use crate::refusal::Refusal;
 use crate::run::Run;
+use crate::runner::Runner;
 use run_record::Report;
 use sdl_build::build;
 use sdl_input::{Input, Texts};
@@ -17,11 +18,8 @@ use sdl_print::print;
 use sdl_script::{Script, read_script};
 use sdl_system::System;
 use sdl_tree::Tree;
-use sdl_workers::{Open, run};
-use serial_run::{Listener, run_serial_heard};
+use serial_run::Listener;
 use std::alloc::Global;
-use std::sync::Wait;
-use std::thread::Threads;
 
 /// An accepted input: the tree of its specification, the system of the tree, and the script for it.
 #[derive(Drop)]
@@ -95,77 +93,48 @@ fn check_texts(alloc: Global, texts: &Texts) -> Result<String, Refusal>
     }
 }
 
-/// The serial run of an input, cut after so many transitions, or why there is none. The listener hears how far it is.
-pub fn run_input<L: Listener>(
+/// The run of an input, cut after so many transitions, or why there is none. While a serial run goes on, the listener
+/// hears how far it is.
+pub fn run_input<E: Runner, L: Listener>(
+    runner: &E,
     alloc: Global,
     input: &Input,
-    limit: u64,
+    options: &Options,
     listener: L,
 ) -> Result<Run, Refusal>
-    ensures ok { IfOk result (λ run. IsRunOfInput input.now None limit run.system run.report run.script.lines.items) }
-    ensures err { IfErr result (Allows Command.Run None input.now) }
+    requires { E.may_lend }
+    ensures ok { IfOk result (λ run. IsRunOfInput input.now (workers_by E.threaded Command.Run options.now.workers)
+        options.now.limit run.system run.report run.script.lines.items) }
+    ensures err { IfErr result (Allows Command.Run (workers_by E.threaded Command.Run options.now.workers) input.now) }
 {
     match input {
-        Input::Held(texts) => run_texts(alloc, texts, limit, listener),
+        Input::Held(texts) => run_texts(runner, alloc, texts, options, listener),
         Input::TooLong => Err(Refusal::Parse(ParseError::Lex(LexError::TooLong))),
     }
 }
 
-fn run_texts<L: Listener>(
+fn run_texts<E: Runner, L: Listener>(
+    runner: &E,
     alloc: Global,
     texts: &Texts,
-    limit: u64,
+    options: &Options,
     listener: L,
 ) -> Result<Run, Refusal>
-    ensures ok { IfOk result (λ run. IsRunOf texts.now None limit run.system run.report run.script.lines.items) }
-    ensures err { IfErr result (AllowsOf Command.Run None texts.now) }
+    requires { E.may_lend }
+    ensures ok { IfOk result (λ run. IsRunOf texts.now (workers_by E.threaded Command.Run options.now.workers)
+        options.now.limit run.system run.report run.script.lines.items) }
+    ensures err { IfErr result
+        (AllowsOf Command.Run (workers_by E.threaded Command.Run options.now.workers) texts.now) }
 {
     let accepted = accept(alloc, texts)?;
-    match run_serial_heard(alloc, &accepted.system, &accepted.script, limit, listener) {
-        Ok(report) => Ok(accepted.into_run(report)),
-        Err(error) => Err(Refusal::Run(error)),
-    }
-}
-
-/// The run of an input by so many workers, cut after so many transitions, or why there is none.
-pub fn run_input_by_workers<T: Threads + Wait + Copy + Send + Sync>(
-    rt: &T,
-    alloc: Global,
-    input: &Input,
-    workers: u8,
-    limit: u64,
-) -> Result<Run, Refusal>
-    ensures ok { IfOk result (λ run. IsRunOfInput input.now (Some workers) limit run.system run.report
-        run.script.lines.items) }
-    ensures err { IfErr result (Allows Command.Run (Some workers) input.now) }
-{
-    match input {
-        Input::Held(texts) => run_texts_by_workers(rt, alloc, texts, workers, limit),
-        Input::TooLong => Err(Refusal::Parse(ParseError::Lex(LexError::TooLong))),
-    }
-}
-
-fn run_texts_by_workers<T: Threads + Wait + Copy + Send + Sync>(
-    rt: &T,
-    alloc: Global,
-    texts: &Texts,
-    workers: u8,
-    limit: u64,
-) -> Result<Run, Refusal>
-    ensures ok { IfOk result (λ run. IsRunOf texts.now (Some workers) limit run.system run.report
-        run.script.lines.items) }
-    ensures err { IfErr result (AllowsOf Command.Run (Some workers) texts.now) }
-{
-    let accepted = accept(alloc, texts)?;
-    let count = usize::from(workers);
-    match run(
-        rt,
+    let (system, script) = (&accepted.system, &accepted.script);
+    match runner.run(
         alloc,
-        &accepted.system,
-        &accepted.script,
-        count,
-        limit,
-        &Open,
+        system,
+        script,
+        options.workers,
+        options.limit,
+        listener,
     ) {
         Ok(report) => Ok(accepted.into_run(report)),
         Err(error) => Err(Refusal::Run(error)),

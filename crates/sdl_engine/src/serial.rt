@@ -1,157 +1,45 @@
-//! The program without threads: a check, or a run on the thread that calls it. No call here waits, so each returns.
+//! A run on the thread that calls. No call here waits, so each returns.
 
-ghost use Rattle.std.specs.Prelude.{◌≡◌, ◌≢◌, IfOk, IfErr, IfSome, None, false, option_map};
-ghost use Rattle.std.specs.Io.KnownBytes.{Keeps};
-ghost use Rattle.failure_replay.specs.Ending.{has_failed};
-ghost use Rattle.sdl_engine.specs.Answer.{Faulted, Fails, IsSerial, Tells, TellsNoOrder, Written};
-ghost use Rattle.sdl_engine.specs.Kept.{IsKept, KeepsRun, KnowsFailed, SaysFailed, TellsNone};
-
-use crate::answer::{canonical, refuse, report};
-use crate::notes::{Notes, keep_run, keep_texts, note_failures, note_refusal, silent_notes};
-use crate::options::{Command, Options, Outcome, TextFault};
-use crate::pipeline::{check_input, run_input};
-use crate::reading::{read_input, read_source};
-use sdl_input::{Input, Source};
-use serial_run::{Listener, Nobody};
+use crate::runner::Runner;
+use run_record::{Report, RunError};
+use sdl_report::{WriteFault, write_report};
+use sdl_script::Script;
+use sdl_system::System;
+use serial_run::{Listener, run_serial_heard};
 use std::alloc::Global;
-use std::io::{Read, Write};
+use std::io::Write;
 
-/// Does what `run_text` does where no thread is asked for: this is a check, or a run without workers (the caller's
-/// condition).
-pub fn run_text_serially<R: Read, W: Write>(
-    alloc: Global,
-    reader: &mut R,
-    writer: &mut W,
-    options: &Options,
-) -> Result<Outcome, TextFault>
-    requires { IsSerial options.now }
-    ensures ok { IfOk result (λ how. Written (R.remaining reader.old) None options.now how
-        (W.contents writer.old) (W.contents writer.new)) }
-    ensures err { IfErr result (λ fault. Faulted fault (R.remaining reader.old) None options.now
-        (W.contents writer.old) (W.contents writer.new)) }
-{
-    let input = read_input(alloc, reader)?;
-    let mut notes = silent_notes();
-    tell_serially(alloc, &input, writer, &mut notes, options, Nobody)
-}
+/// The thread that calls, and no other.
+#[derive(Drop)]
+pub struct Serial;
 
-/// Does what `run_and_note` does where no thread is asked for: this is a check, or a run without workers (the
-/// caller's condition). While it runs the listener hears how far it is.
-pub fn run_and_note_serially<R: Read, S: Read, W: Write, N: Write, L: Listener>(
-    alloc: Global,
-    source: &mut Source<R, S>,
-    writer: &mut W,
-    notes: &mut Notes<'_, N>,
-    options: &Options,
-    listener: L,
-) -> Result<Outcome, TextFault>
-    requires { IsSerial options.now }
-    ensures ok { IfOk result (λ how. Written (R.remaining source.old.text) (option_map S.remaining source.old.script)
-        options.now how (W.contents writer.old) (W.contents writer.new)) }
-    ensures err { IfErr result (λ fault. Faulted fault (R.remaining source.old.text)
-        (option_map S.remaining source.old.script) options.now (W.contents writer.old) (W.contents writer.new)) }
-    ensures quiet { result ≢ Ok Outcome.TextRefused → result ≢ Ok Outcome.Cut →
-        TellsNone notes.old.failures notes.new.failed → TellsNoOrder options.now →
-        Keeps (N.contents notes.old.writer) (N.contents notes.new.writer) }
-    ensures silent { notes.old.explains ≡ false → result ≢ Ok Outcome.Cut →
-        TellsNone notes.old.failures notes.new.failed → TellsNoOrder options.now →
-        Keeps (N.contents notes.old.writer) (N.contents notes.new.writer) }
-    ensures kept { IfOk result (λ how. IsKept notes.old.keeps (R.remaining source.old.text)
-        (option_map S.remaining source.old.script) options.now how notes.new.run notes.new.texts
-        notes.new.stuck (W.contents writer.old) (W.contents writer.new)) }
-    ensures failed { IfSome notes.new.run (λ run. notes.new.failed ≡ has_failed run.report.records.items) }
-    ensures told_failed { IfOk result (λ how. KnowsFailed (R.remaining source.old.text)
-        (option_map S.remaining source.old.script) options.now how notes.new.stuck notes.new.failed
-        (W.contents writer.old) (W.contents writer.new)) }
-{
-    notes.run = None;
-    notes.failed = false;
-    let input = read_source(alloc, source)?;
-    let explains = notes.explains;
-    let told = tell_serially(alloc, &input, writer, notes, options, listener);
-    note_refusal(alloc, &input, &told, explains, notes);
-    keep_texts(input, notes);
-    told
-}
+impl Runner for Serial {
+    ghost use Rattle.std.specs.Prelude.{false};
 
-/// Writes what the command asks for of an input, or the line of its refusal, and notes what there is to say of a run.
-pub fn tell_serially<W: Write, N: Write, L: Listener>(
-    alloc: Global,
-    input: &Input,
-    writer: &mut W,
-    notes: &mut Notes<'_, N>,
-    options: &Options,
-    listener: L,
-) -> Result<Outcome, TextFault>
-    requires { IsSerial options.now }
-    ensures ok { IfOk result (λ how. Tells input.now options.now how (W.contents writer.old) (W.contents writer.new)) }
-    ensures err { IfErr result (λ fault. Fails fault input.now options.now
-        (W.contents writer.old) (W.contents writer.new)) }
-    ensures quiet { result ≢ Ok Outcome.Cut → TellsNone notes.old.failures notes.new.failed →
-        TellsNoOrder options.now → Keeps (N.contents notes.old.writer) (N.contents notes.new.writer) }
-    ensures kept { notes.old.run ≡ None → IfOk result (λ how. KeepsRun notes.old.keeps input.now options.now how
-        notes.new.run notes.new.stuck (W.contents writer.old) (W.contents writer.new)) }
-    ensures failed { notes.old.run ≡ None →
-        IfSome notes.new.run (λ run. notes.new.failed ≡ has_failed run.report.records.items) }
-    ensures told_failed { notes.old.failed ≡ false → IfOk result (λ how. SaysFailed input.now options.now how
-        notes.new.stuck notes.new.failed (W.contents writer.old) (W.contents writer.new)) }
-{
-    match options.command {
-        Command::Check => tell_check(alloc, input, writer, options),
-        Command::Run => tell_run(alloc, input, writer, notes, options, listener),
+    ghost threaded = { false };
+
+    ghost may_lend = { Unit {0} };
+
+    fn run<L: Listener>(
+        &self,
+        alloc: Global,
+        system: &System,
+        script: &Script,
+        _workers: Option<u8>,
+        limit: u64,
+        listener: L,
+    ) -> Result<Report, RunError> {
+        run_serial_heard(alloc, system, script, limit, listener)
     }
-}
 
-/// Writes the canonical text of an input's specification, or the line of its refusal.
-fn tell_check<W: Write>(
-    alloc: Global,
-    input: &Input,
-    writer: &mut W,
-    options: &Options,
-) -> Result<Outcome, TextFault>
-    requires { options.now.command ≡ Command.Check }
-    ensures ok { IfOk result (λ how. Tells input.now options.now how (W.contents writer.old) (W.contents writer.new)) }
-    ensures err { IfErr result (λ fault. Fails fault input.now options.now
-        (W.contents writer.old) (W.contents writer.new)) }
-{
-    match check_input(alloc, input) {
-        Ok(text) => canonical(text.as_str(), writer),
-        Err(refusal) => refuse(alloc, &refusal, writer),
-    }
-}
-
-/// Runs an input serially and writes the report, or the line of its refusal.
-fn tell_run<W: Write, N: Write, L: Listener>(
-    alloc: Global,
-    input: &Input,
-    writer: &mut W,
-    notes: &mut Notes<'_, N>,
-    options: &Options,
-    listener: L,
-) -> Result<Outcome, TextFault>
-    requires command { options.now.command ≡ Command.Run }
-    requires workers { options.now.workers ≡ None }
-    ensures ok { IfOk result (λ how. Tells input.now options.now how (W.contents writer.old) (W.contents writer.new)) }
-    ensures err { IfErr result (λ fault. Fails fault input.now options.now
-        (W.contents writer.old) (W.contents writer.new)) }
-    ensures quiet { result ≢ Ok Outcome.Cut → TellsNone notes.old.failures notes.new.failed →
-        TellsNoOrder options.now → Keeps (N.contents notes.old.writer) (N.contents notes.new.writer) }
-    ensures kept { notes.old.run ≡ None → IfOk result (λ how. KeepsRun notes.old.keeps input.now options.now how
-        notes.new.run notes.new.stuck (W.contents writer.old) (W.contents writer.new)) }
-    ensures failed { notes.old.run ≡ None →
-        IfSome notes.new.run (λ run. notes.new.failed ≡ has_failed run.report.records.items) }
-    ensures told_failed { notes.old.failed ≡ false → IfOk result (λ how. SaysFailed input.now options.now how
-        notes.new.stuck notes.new.failed (W.contents writer.old) (W.contents writer.new)) }
-{
-    let keeps = notes.keeps;
-    let tells = notes.failures;
-    match run_input(alloc, input, options.limit, listener) {
-        Ok(run) => {
-            let told = report(alloc, &run, writer, notes, options);
-            note_failures(alloc, input, &run, tells, notes);
-            keep_run(run, keeps, notes);
-            told
-        }
-        Err(refusal) => refuse(alloc, &refusal, writer),
+    fn write_report<W: Write>(
+        &self,
+        alloc: Global,
+        _workers: Option<u8>,
+        report: &Report,
+        system: &System,
+        writer: &mut W,
+    ) -> Result<(), WriteFault> {
+        write_report(alloc, report, system, writer)
     }
 }

@@ -6,22 +6,23 @@ ghost use Rattle.sdl_engine.specs.Answer.{FailsToTellRun, TellsRun};
 use crate::options::{TextFault, View};
 use crate::order::order_of;
 use crate::run::{Run, signals_of};
-use sdl_report::write_report;
+use crate::runner::Runner;
 use std::alloc::Global;
 use std::io::Write;
-use std::thread::Threads;
-use threads_report::write_report_by_workers;
 use view_json::write_json;
 use view_lines::write_lines;
 
-/// Writes a run in this view. It answers the instance that can't go on, where its order is asked for and isn't known to
-/// the end.
-pub fn write_view<W: Write>(
+/// Writes a run in this view. So many workers make the text of its report, if there are threads for them. It answers
+/// the instance that can't go on, where its order is asked for and isn't known to the end.
+pub fn write_view<E: Runner, W: Write>(
+    runner: &E,
     alloc: Global,
     run: &Run,
     view: View,
+    workers: Option<u8>,
     writer: &mut W,
 ) -> Result<Option<u32>, TextFault>
+    requires { E.may_lend }
     ensures ok { IfOk result (λ stuck. TellsRun view run.now.system run.now.report run.now.script.lines.items stuck
         (W.contents writer.old) (W.contents writer.new)) }
     ensures err { IfErr result (λ fault. FailsToTellRun fault view run.now.system run.now.report
@@ -29,61 +30,28 @@ pub fn write_view<W: Write>(
     ensures trace { view ≡ View.Trace → IfOk result (λ stuck. stuck ≡ None) }
 {
     match view {
-        View::Trace => write_trace(alloc, run, writer),
+        View::Trace => write_trace(runner, alloc, run, workers, writer),
         View::Lines => write_in_lines(alloc, run, writer),
         View::Json => write_in_json(alloc, run, writer),
     }
 }
 
-/// Writes a run in this view. So many workers make the text of its report.
-pub fn write_view_by_workers<T: Threads + Sync, W: Write>(
-    rt: &T,
-    alloc: Global,
-    workers: u8,
-    run: &Run,
-    view: View,
-    writer: &mut W,
-) -> Result<Option<u32>, TextFault>
-    ensures ok { IfOk result (λ stuck. TellsRun view run.now.system run.now.report run.now.script.lines.items stuck
-        (W.contents writer.old) (W.contents writer.new)) }
-    ensures err { IfErr result (λ fault. FailsToTellRun fault view run.now.system run.now.report
-        run.now.script.lines.items (W.contents writer.old) (W.contents writer.new)) }
-    ensures trace { view ≡ View.Trace → IfOk result (λ stuck. stuck ≡ None) }
-{
-    match view {
-        View::Trace => write_trace_by_workers(rt, alloc, workers, run, writer),
-        _ => write_view(alloc, run, view, writer),
-    }
-}
-
 /// Writes the report of a run.
-fn write_trace<W: Write>(alloc: Global, run: &Run, writer: &mut W) -> Result<Option<u32>, TextFault>
-    ensures ok { IfOk result (λ stuck. TellsRun View.Trace run.now.system run.now.report
-        run.now.script.lines.items stuck (W.contents writer.old) (W.contents writer.new)) }
-    ensures err { IfErr result (λ fault. FailsToTellRun fault View.Trace run.now.system run.now.report
-        run.now.script.lines.items (W.contents writer.old) (W.contents writer.new)) }
-    ensures trace { IfOk result (λ stuck. stuck ≡ None) }
-{
-    write_report(alloc, &run.report, &run.system, writer)?;
-    Ok(None)
-}
-
-/// Writes the report of a run, whose text so many workers make.
-fn write_trace_by_workers<T: Threads + Sync, W: Write>(
-    rt: &T,
+fn write_trace<E: Runner, W: Write>(
+    runner: &E,
     alloc: Global,
-    workers: u8,
     run: &Run,
+    workers: Option<u8>,
     writer: &mut W,
 ) -> Result<Option<u32>, TextFault>
+    requires { E.may_lend }
     ensures ok { IfOk result (λ stuck. TellsRun View.Trace run.now.system run.now.report
         run.now.script.lines.items stuck (W.contents writer.old) (W.contents writer.new)) }
     ensures err { IfErr result (λ fault. FailsToTellRun fault View.Trace run.now.system run.now.report
         run.now.script.lines.items (W.contents writer.old) (W.contents writer.new)) }
     ensures trace { IfOk result (λ stuck. stuck ≡ None) }
 {
-    let workers = usize::from(workers);
-    write_report_by_workers(rt, alloc, workers, &run.report, &run.system, writer)?;
+    runner.write_report(alloc, workers, &run.report, &run.system, writer)?;
     Ok(None)
 }
 

@@ -11,7 +11,7 @@ use crate::progress::Progress;
 use crate::warned::warn;
 use sdl_command_line::{InputFile, Task};
 use sdl_engine::{
-    Names, Notes, Options, Outcome, Source, TextFault, View, run_and_note, run_and_note_serially,
+    Names, Nobody, Notes, Options, Outcome, Serial, Source, TextFault, Threaded, View, run_and_note,
 };
 use sdl_views::ToldRun;
 use std::io::Write;
@@ -184,9 +184,18 @@ fn tell_to<T: Threads + Wait + Copy + Send + Sync, W: Write>(
 ) -> Result<Outcome, TextFault> {
     if options.is_serial() {
         let progress = Progress::new(rt, notes.explains);
-        run_and_note_serially(rt.alloc(), source, writer, notes, options, progress)
+        run_and_note(
+            &Serial,
+            rt.alloc(),
+            source,
+            writer,
+            notes,
+            options,
+            progress,
+        )
     } else {
-        run_and_note(threads, rt.alloc(), source, writer, notes, options)
+        let runner = Threaded { rt: threads };
+        run_and_note(&runner, rt.alloc(), source, writer, notes, options, Nobody)
     }
 }
 

@@ -2,7 +2,7 @@
 
 use crate::devices::Narrow;
 use sdl_engine::{
-    Command, Names, Nobody, Notes, Options, Source, TextFault, View, run_and_note_serially,
+    Command, Names, Nobody, Notes, Options, Serial, Source, TextFault, View, run_and_note,
 };
 use sdl_views::{Form, draw};
 use std::alloc::Global;
@@ -50,7 +50,15 @@ fn notes(alloc: Global, text: &str, keeps: bool) -> Notes<'static, Vec<u8>> {
         texts: None,
     };
     let mut written = Vec::new(alloc);
-    let _ = run_and_note_serially(alloc, &mut source, &mut written, &mut notes, &RUN, Nobody);
+    let _ = run_and_note(
+        &Serial,
+        alloc,
+        &mut source,
+        &mut written,
+        &mut notes,
+        &RUN,
+        Nobody,
+    );
     notes
 }
 

@@ -1,12 +1,10 @@
 //! What a run covered that the whole tool has made.
 
-ghost use Rattle.sdl_engine.specs.Answer.{IsSerial};
-
 use crate::covered::COVERED;
 use crate::devices::Narrow;
 use sdl_engine::{
-    Command, Names, Nobody, Notes, Options, Outcome, Source, TextFault, View, run_and_note,
-    run_and_note_serially,
+    Command, Names, Nobody, Notes, Options, Outcome, Serial, Source, TextFault, Threaded, View,
+    run_and_note,
 };
 use sdl_views::{ToldRun, cover, draw};
 use std::alloc::Global;
@@ -164,13 +162,12 @@ fn notes(alloc: Global, keeps: bool) -> Notes<'static, Vec<u8>> {
 }
 
 /// The notes of a text that is told so.
-fn told(alloc: Global, text: &str, keeps: bool, options: &Options) -> Notes<'static, Vec<u8>>
-    requires { IsSerial options.now }
-{
+fn told(alloc: Global, text: &str, keeps: bool, options: &Options) -> Notes<'static, Vec<u8>> {
     let mut source = source(text);
     let mut notes = notes(alloc, keeps);
     let mut written = Vec::new(alloc);
-    let _ = run_and_note_serially(
+    let _ = run_and_note(
+        &Serial,
         alloc,
         &mut source,
         &mut written,
@@ -222,7 +219,8 @@ fn forgets_an_earlier_run(rt: HostRuntime) {
     let alloc = rt.alloc();
     let mut notes = told(alloc, TEXT, true, &SERIAL);
     let mut written = Vec::new(alloc);
-    let outcome = run_and_note_serially(
+    let outcome = run_and_note(
+        &Serial,
         alloc,
         &mut source(REFUSED),
         &mut written,
@@ -257,12 +255,13 @@ fn knows_no_answers_of_workers(rt: HostRuntime) {
     let mut notes = notes(rt.alloc(), true);
     let mut written = Vec::new(rt.alloc());
     let outcome = run_and_note(
-        &rt,
+        &Threaded { rt: &rt },
         rt.alloc(),
         &mut source(TEXT),
         &mut written,
         &mut notes,
         &BY_WORKERS,
+        Nobody,
     );
     assert!(rt; outcome == Ok(Outcome::Whole));
     let plain = covered(&rt, rt.alloc(), &notes, &BY_WORKERS, Form::Plain);

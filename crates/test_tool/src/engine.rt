@@ -1,12 +1,9 @@
 //! The whole tool over readers and writers that don't do what is asked of them, and the lines of its refusals.
 
-ghost use Rattle.sdl_engine.specs.Answer.{IsSerial};
-
 use crate::devices::{Hurried, Narrow, Restless, Torn, Trickle};
 use sdl_build::BuildError;
 use sdl_engine::{
-    Command, Options, Outcome, Refusal, TextFault, View, fixed_line, refusal_line,
-    run_text_serially,
+    Command, Options, Outcome, Refusal, Serial, TextFault, View, fixed_line, refusal_line, run_text,
 };
 use sdl_lex::LexError;
 use sdl_parse::ParseError;
@@ -110,9 +107,7 @@ fn reads_and_writes_single_bytes(rt: HostRuntime) {
     expect_single_bytes(&rt, rt.alloc(), &CHECK, CANONICAL);
 }
 
-fn expect_single_bytes(rt: &impl Abort, alloc: Global, options: &Options, output: &str)
-    requires { IsSerial options.now }
-{
+fn expect_single_bytes(rt: &impl Abort, alloc: Global, options: &Options, output: &str) {
     let mut reader = Trickle {
         rest: TEXT.as_bytes(),
         interrupted: false,
@@ -121,7 +116,7 @@ fn expect_single_bytes(rt: &impl Abort, alloc: Global, options: &Options, output
         taken: Vec::new(alloc),
         interrupted: false,
     };
-    let told = run_text_serially(alloc, &mut reader, &mut writer, options);
+    let told = run_text(&Serial, alloc, &mut reader, &mut writer, options);
     assert!(rt; told == Ok(Outcome::Whole));
     assert!(rt; writer.taken.as_slice() == output.as_bytes());
 }
@@ -132,14 +127,12 @@ fn tells_a_reader_that_fails(rt: HostRuntime) {
     expect_torn(&rt, rt.alloc(), &CHECK);
 }
 
-fn expect_torn(rt: &impl Abort, alloc: Global, options: &Options)
-    requires { IsSerial options.now }
-{
+fn expect_torn(rt: &impl Abort, alloc: Global, options: &Options) {
     let mut written = Vec::new(alloc);
     let mut reader = Torn {
         rest: TEXT.as_bytes(),
     };
-    let told = run_text_serially(alloc, &mut reader, &mut written, options);
+    let told = run_text(&Serial, alloc, &mut reader, &mut written, options);
     assert!(rt; told == Err(TextFault::Read));
     assert!(rt; written.is_empty());
 }
@@ -164,7 +157,7 @@ fn expect_restless(
         rest: TEXT.as_bytes(),
     };
     let mut written = Vec::new(alloc);
-    let told = run_text_serially(alloc, &mut reader, &mut written, &RUN);
+    let told = run_text(&Serial, alloc, &mut reader, &mut written, &RUN);
     assert!(rt; told == wanted);
     assert!(rt; written.is_empty() == wanted.is_err());
 }
@@ -187,9 +180,7 @@ fn expect_narrow_writers(
     options: &Options,
     text: &str,
     output: &str,
-)
-    requires { IsSerial options.now }
-{
+) {
     for (room, fails) in &ROOMS {
         let writer = Narrow {
             taken: Vec::new(alloc),
@@ -208,12 +199,10 @@ fn expect_beginning(
     text: &str,
     output: &str,
     mut writer: Narrow,
-)
-    requires { IsSerial options.now }
-{
+) {
     let room = writer.room;
     let mut reader = text.as_bytes();
-    let told = run_text_serially(alloc, &mut reader, &mut writer, options);
+    let told = run_text(&Serial, alloc, &mut reader, &mut writer, options);
     assert!(rt; told == Err(TextFault::Write));
     assert!(rt; writer.taken.len() == room);
     assert!(rt;

@@ -1,8 +1,6 @@
 //! What is expected of a run, and what it sent.
 
-use sdl_engine::{
-    Command, Names, Nobody, Notes, Options, Run, Source, View, run_and_note_serially,
-};
+use sdl_engine::{Command, Names, Nobody, Notes, Options, Run, Serial, Source, View, run_and_note};
 use sdl_expected::{by_sender, difference_text, first_difference, lines_of};
 use sdl_views::sent_signals;
 use std::alloc::Global;
@@ -138,6 +136,14 @@ fn run_of(rt: &impl Abort, alloc: Global) -> Run {
         texts: None,
     };
     let mut written = Vec::new(alloc);
-    let _ = run_and_note_serially(alloc, &mut source, &mut written, &mut notes, &RUN, Nobody);
+    let _ = run_and_note(
+        &Serial,
+        alloc,
+        &mut source,
+        &mut written,
+        &mut notes,
+        &RUN,
+        Nobody,
+    );
     notes.run.expect(rt, "a run")
 }

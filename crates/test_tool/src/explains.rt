@@ -2,7 +2,7 @@
 
 use crate::devices::Narrow;
 use sdl_engine::{
-    Command, Names, Nobody, Notes, Options, Outcome, Source, TextFault, View, run_and_note_serially,
+    Command, Names, Nobody, Notes, Options, Outcome, Serial, Source, TextFault, View, run_and_note,
 };
 use std::alloc::Global;
 use std::process::Abort;
@@ -71,7 +71,15 @@ fn expect_notes(rt: &impl Abort, alloc: Global, text: &str, explained: &str) {
     };
     let mut written = Vec::new(alloc);
     let mut notes = explaining(Vec::new(alloc));
-    let told = run_and_note_serially(alloc, &mut source, &mut written, &mut notes, &CHECK, Nobody);
+    let told = run_and_note(
+        &Serial,
+        alloc,
+        &mut source,
+        &mut written,
+        &mut notes,
+        &CHECK,
+        Nobody,
+    );
     assert!(rt; told == Ok(Outcome::TextRefused));
     assert!(rt; notes.writer.as_slice() == explained.as_bytes());
 }
@@ -93,7 +101,15 @@ fn run(
         script: None::<&[u8]>,
     };
     let mut written = Vec::new(alloc);
-    run_and_note_serially(alloc, &mut source, &mut written, notes, &options, Nobody)
+    run_and_note(
+        &Serial,
+        alloc,
+        &mut source,
+        &mut written,
+        notes,
+        &options,
+        Nobody,
+    )
 }
 
 static LOOP: &str =
@@ -128,7 +144,8 @@ fn goes_on_where_nothing_can_be_noted(rt: HostRuntime) {
         room: 4,
         fails: true,
     });
-    let told = run_and_note_serially(
+    let told = run_and_note(
+        &Serial,
         rt.alloc(),
         &mut source,
         &mut written,

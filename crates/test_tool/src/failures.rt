@@ -1,7 +1,7 @@
 //! Failures of instances that nobody asks for. What is told of them are cases.
 
 use sdl_engine::{
-    Command, Names, Nobody, Notes, Options, Outcome, Source, TextFault, View, run_and_note_serially,
+    Command, Names, Nobody, Notes, Options, Outcome, Serial, Source, TextFault, View, run_and_note,
 };
 use std::alloc::Global;
 
@@ -49,5 +49,13 @@ fn run(alloc: Global, text: &str, notes: &mut Notes<'_, Vec<u8>>) -> Result<Outc
         script: None::<&[u8]>,
     };
     let mut written = Vec::new(alloc);
-    run_and_note_serially(alloc, &mut source, &mut written, notes, &options, Nobody)
+    run_and_note(
+        &Serial,
+        alloc,
+        &mut source,
+        &mut written,
+        notes,
+        &options,
+        Nobody,
+    )
 }

@@ -2,7 +2,7 @@
 
 use crate::devices::Torn;
 use sdl_engine::{
-    Command, Names, Nobody, Notes, Options, Outcome, Source, TextFault, View, run_and_note_serially,
+    Command, Names, Nobody, Notes, Options, Outcome, Serial, Source, TextFault, View, run_and_note,
 };
 use std::alloc::Global;
 use std::io::Read;
@@ -72,7 +72,15 @@ fn run<S: Read + Drop>(alloc: Global, script: Option<S>) -> Told {
         texts: None,
     };
     let mut written = Vec::new(alloc);
-    let outcome = run_and_note_serially(alloc, &mut source, &mut written, &mut notes, &RUN, Nobody);
+    let outcome = run_and_note(
+        &Serial,
+        alloc,
+        &mut source,
+        &mut written,
+        &mut notes,
+        &RUN,
+        Nobody,
+    );
     let Notes { writer, .. } = notes;
     Told {
         outcome,

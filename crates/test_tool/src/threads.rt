@@ -1,7 +1,7 @@
 //! Runs on worker threads through the whole tool: what every schedule has, where the text is the schedule's own.
 
 use crate::devices::Narrow;
-use sdl_engine::{Command, Options, Outcome, TextFault, View, run_text};
+use sdl_engine::{Command, Options, Outcome, TextFault, Threaded, View, run_text};
 use std::alloc::Global;
 use std::process::Abort;
 use std::sync::Wait;
@@ -33,7 +33,13 @@ fn expect_cut<R: Threads + Wait + Copy + Send + Sync + Abort>(rt: &R, alloc: Glo
         limit: 50,
     };
     let mut written = Vec::new(alloc);
-    let told = run_text(rt, alloc, &mut PING_PONG.as_bytes(), &mut written, &options);
+    let told = run_text(
+        &Threaded { rt },
+        alloc,
+        &mut PING_PONG.as_bytes(),
+        &mut written,
+        &options,
+    );
     assert!(rt; told == Ok(Outcome::Cut), "{workers} workers");
     assert!(rt; transitions(written.as_slice()) >= 50, "{workers} workers");
 }
@@ -85,7 +91,13 @@ fn expect_write_fault<R: Threads + Wait + Copy + Send + Sync + Abort>(
         room,
         fails,
     };
-    let told = run_text(rt, alloc, &mut PING_PONG.as_bytes(), &mut writer, &options);
+    let told = run_text(
+        &Threaded { rt },
+        alloc,
+        &mut PING_PONG.as_bytes(),
+        &mut writer,
+        &options,
+    );
     assert!(rt; told == Err(TextFault::Write));
     assert!(rt; writer.taken.len() == room);
 }
@@ -145,7 +157,13 @@ fn report<R: Threads + Wait + Copy + Send + Sync + Abort>(
         limit: Options::DEFAULT_LIMIT,
     };
     let mut written = Vec::new(alloc);
-    let told = run_text(rt, alloc, &mut text.as_bytes(), &mut written, &options);
+    let told = run_text(
+        &Threaded { rt },
+        alloc,
+        &mut text.as_bytes(),
+        &mut written,
+        &options,
+    );
     assert!(rt; told == Ok(Outcome::Whole));
     written
 }
@@ -188,7 +206,13 @@ fn expect_text<R: Threads + Wait + Copy + Send + Sync + Abort>(
         limit: Options::DEFAULT_LIMIT,
     };
     let mut written = Vec::new(alloc);
-    let told = run_text(rt, alloc, &mut text.as_bytes(), &mut written, &options);
+    let told = run_text(
+        &Threaded { rt },
+        alloc,
+        &mut text.as_bytes(),
+        &mut written,
+        &options,
+    );
     assert!(rt; told == Ok(outcome));
     assert!(rt; written.as_slice() == output);
 }

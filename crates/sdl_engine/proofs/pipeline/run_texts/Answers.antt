@@ -1,9 +1,8 @@
-use Rattle.std.proofs.Common.{None, subst, sym}
 use Rattle.sdl_tree.specs.Views.{tree_value}
-use Rattle.sdl_engine.proofs.BehaviourLemmas.{behaviours_of_text, some_behaviours}
-use Rattle.sdl_engine.specs.Answer.{AllowsOf, IsRunRefused}
+use Rattle.sdl_engine.specs.Answer.{workers_by}
 use Rattle.sdl_engine.specs.declared.options.Command.TheVariants as command
-use Rattle.sdl_engine.specs.declared.refusal.Refusal.TheVariants as refusal
+use Rattle.sdl_engine.proofs.AnswerLaws.{run_allows}
+use Rattle.sdl_engine.proofs.BehaviourLemmas.{behaviours_of_text, some_behaviours}
 use Rattle.sdl_engine.proofs.pipeline.run_texts.Goals as goal
 
 pub returns-in-Ok-clause-ok : goal.returns-in-Ok-clause-ok
@@ -15,16 +14,16 @@ returns-in-Ok-clause-ok g c =
       accepted = accepted;
       behaves = some_behaviours (tree_value taken.tree) taken.system accepted.built;
       ran = λ ps of.
-          c.in-Ok.ensures.serial ps (behaviours_of_text (tree_value taken.tree) taken.system accepted.built ps of);
+          c.in-Ok.ensures.report ps (behaviours_of_text (tree_value taken.tree) taken.system accepted.built ps of);
     })
 
 pub returns-in-Err-clause-err : goal.returns-in-Err-clause-err
 returns-in-Err-clause-err g c =
     let taken = c.in_ok-accepted.accepted in
-    let refused : IsRunRefused c.args.texts.now = record {
+    run_allows (workers_by g.E.Runner.threaded command.Run c.args.options.now.workers) c.args.texts.now c.in-Err.error
+    c.in-Err.ensures.err (record {
       tree = tree_value taken.tree;
       system = taken.system;
       lines = taken.script.lines.items;
       accepted = c.in_ok-accepted.ensures.ok;
-    } in
-    subst (λ error. AllowsOf command.Run None c.args.texts.now (refusal.Run error)) (sym c.in-Err.ensures.err) refused
+    })

@@ -1,6 +1,7 @@
 use Rattle.std.proofs.Common.{arith, refl}
 use Rattle.std.proofs.KnownBytes.{Keeps-trans}
 use Rattle.std.proofs.lemmas.Result.{IfOk-weaker}
+use Rattle.sdl_engine.specs.Answer.{carried}
 use Rattle.sdl_engine.proofs.FailedLaws.{says_as}
 use Rattle.sdl_engine.proofs.text.run_and_note.Goals as goal
 
@@ -26,7 +27,8 @@ returns-clause-told_failed g c =
     (λ how says. record {
       input = c.in_ok-input.input;
       read = c.in_ok-input.ensures.ok;
-      says = says_as c.in_ok-input.input c.args.options.now how before.stuck notes.stuck before.failed notes.failed _ _
+      says = says_as c.in_ok-input.input (carried g.E.Runner.threaded c.args.options.now) how before.stuck notes.stuck
+          before.failed notes.failed _ _
           (grind (arith, c.keep_texts.ensures.kept, c.note_refusal.ensures.rest))
           (grind (arith, c.keep_texts.ensures.kept, c.note_refusal.ensures.rest)) says;
     })

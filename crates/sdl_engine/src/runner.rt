@@ -1,0 +1,62 @@
+//! Who makes the steps of a run, and the text of its report.
+
+ghost use Rattle.std.specs.Prelude.{◌≡◌, All, Bool, IfErr, IfOk, List, None, OnErr, OnOk};
+ghost use Rattle.std.specs.Io.KnownBytes.{Appends};
+ghost use Rattle.run_semantics.specs.Behaves.{AreBehaviours};
+ghost use Rattle.sdl_engine.specs.Answer.{IsReportBy, workers_by};
+ghost use Rattle.sdl_engine.specs.declared.options.Command.TheVariants.{Run};
+ghost use Rattle.sdl_report.specs.Gathered.{BreaksOff};
+ghost use Rattle.sdl_report.specs.ReportText.{report_text};
+ghost use Rattle.sdl_script.specs.Script.{SendsFromEnv};
+ghost use Rattle.sdl_system.specs.Behaviour.{Behaviour};
+
+use run_record::{Report, RunError};
+use sdl_report::WriteFault;
+use sdl_script::Script;
+use sdl_system::System;
+use serial_run::Listener;
+use std::alloc::Global;
+use std::io::Write;
+
+/// Who makes the steps of a run, and the text of its report: the thread that calls, and workers, if there are threads
+/// for them and some are asked for.
+pub trait Runner {
+    /// Whether there are threads. Without them each run is serial.
+    ghost threaded: { Bool };
+
+    /// That it may lend threads what it runs with. The bounds of its type say so, but a method of a trait isn't told of
+    /// these: so each call asks it, and who has the type knows it.
+    ghost may_lend: { Type 0 };
+
+    /// Runs a system on a script, cut after so many transitions. While a serial run goes on, the listener hears how far
+    /// it is. That the script is one for the system is the caller's condition.
+    fn run<L: Listener>(
+        &self,
+        alloc: Global,
+        system: &System,
+        script: &Script,
+        workers: Option<u8>,
+        limit: u64,
+        listener: L,
+    ) -> Result<Report, RunError>
+        requires lent { Self.may_lend }
+        requires script { All (SendsFromEnv system.now) script.now.lines.items }
+        ensures report { IfOk result (λ report. (ps : List Behaviour) → AreBehaviours system.now ps
+            → IsReportBy (workers_by Self.threaded Run workers) ps system.now script.now.lines.items limit report) }
+        ensures err { workers_by Self.threaded Run workers ≡ None → IfErr result (λ why. why ≡ RunError.Memory) };
+
+    /// Writes a report. So many workers make its text, if there are threads for them.
+    fn write_report<W: Write>(
+        &self,
+        alloc: Global,
+        workers: Option<u8>,
+        report: &Report,
+        system: &System,
+        writer: &mut W,
+    ) -> Result<(), WriteFault>
+        requires { Self.may_lend }
+        ensures ok { OnOk result (Appends (W.contents writer.old) (W.contents writer.new)
+            (report_text system.now report.now)) }
+        ensures err { OnErr result (BreaksOff (W.contents writer.old) (W.contents writer.new)
+            (report_text system.now report.now)) };
+}

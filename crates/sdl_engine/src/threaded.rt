@@ -1,0 +1,70 @@
+//! A run with threads for workers. Its calls may wait for them.
+
+use crate::runner::Runner;
+use crate::serial::Serial;
+use run_record::{Report, RunError};
+use sdl_report::WriteFault;
+use sdl_script::Script;
+use sdl_system::System;
+use sdl_workers::{Open, run};
+use serial_run::Listener;
+use std::alloc::Global;
+use std::io::Write;
+use std::sync::Wait;
+use std::thread::Threads;
+use threads_report::write_report_by_workers;
+
+/// The thread that calls, and the workers that are asked for. Without workers it goes as without threads.
+#[derive(Drop)]
+pub struct Threaded<'t, T: Threads + Wait + Sync> {
+    pub rt: &'t T,
+}
+
+impl<'t, T: Threads + Wait + Sync> Runner for Threaded<'t, T> {
+    ghost use Rattle.std.specs.Prelude.{true};
+    ghost use Rattle.std.specs.Thread.{IsSync};
+
+    ghost threaded = { true };
+
+    ghost may_lend = { IsSync T.row };
+
+    fn run<L: Listener>(
+        &self,
+        alloc: Global,
+        system: &System,
+        script: &Script,
+        workers: Option<u8>,
+        limit: u64,
+        listener: L,
+    ) -> Result<Report, RunError> {
+        match workers {
+            None => Serial.run(alloc, system, script, None, limit, listener),
+            Some(count) => run(
+                &self.rt,
+                alloc,
+                system,
+                script,
+                usize::from(count),
+                limit,
+                &Open,
+            ),
+        }
+    }
+
+    fn write_report<W: Write>(
+        &self,
+        alloc: Global,
+        workers: Option<u8>,
+        report: &Report,
+        system: &System,
+        writer: &mut W,
+    ) -> Result<(), WriteFault> {
+        match workers {
+            None => Serial.write_report(alloc, None, report, system, writer),
+            Some(count) => {
+                let count = usize::from(count);
+                write_report_by_workers(self.rt, alloc, count, report, system, writer)
+            }
+        }
+    }
+}
