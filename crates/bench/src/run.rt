@@ -55,7 +55,13 @@ pub fn written<R: Threads + Wait + Copy + Send + Sync>(
     };
     let mut reader = text;
     let mut counter = Counter { bytes: 0 };
-    match run_text(&Threaded { rt }, alloc, &mut reader, &mut counter, &options) {
+    match run_text(
+        &Threaded::new(rt),
+        alloc,
+        &mut reader,
+        &mut counter,
+        &options,
+    ) {
         Ok(Outcome::Whole) => Ok(counter.bytes),
         _ => Err(Fault::Text),
     }
@@ -157,7 +163,7 @@ fn bytes<R: Threads + Wait + Copy + Send + Sync>(
     workers: Option<u8>,
 ) -> Result<u64, Fault> {
     let mut counter = Counter { bytes: 0 };
-    let runner = Threaded { rt };
+    let runner = Threaded::new(rt);
     match runner.write_report(alloc, workers, report, system, &mut counter) {
         Ok(()) => Ok(counter.bytes),
         Err(_) => Err(Fault::Memory),

@@ -1,4 +1,3 @@
-pub mod AnswerLaws
 pub mod EscapeLaws
 pub mod JudgeLaws
 pub mod TallyLaws

@@ -27,7 +27,7 @@ pub fn answer_of<T: Threads + Wait + Copy + Send + Sync>(
 {
     let mut reader = input;
     let mut output = Vec::new(alloc);
-    let outcome = run_text(&Threaded { rt }, alloc, &mut reader, &mut output, options);
+    let outcome = run_text(&Threaded::new(rt), alloc, &mut reader, &mut output, options);
     let status = status_of(&outcome);
     Answer { status, output }
 }
@@ -92,7 +92,7 @@ pub fn noted_answer<T: Threads + Wait + Copy + Send + Sync>(
         script: None::<&[u8]>,
     };
     let mut output = Vec::new(alloc);
-    let runner = Threaded { rt };
+    let runner = Threaded::new(rt);
     let outcome = run_and_note(
         &runner,
         alloc,

@@ -25,7 +25,6 @@ pub fn report<E: Runner, W: Write, N: Write>(
     notes: &mut Notes<'_, N>,
     options: &Options,
 ) -> Result<Outcome, TextFault>
-    requires { E.may_lend }
     ensures how { IfOk result (λ how. how ≡ outcome_by run.now.report.whole) }
     ensures ok { OnOk result (TellsRun options.now.view run.now.system run.now.report run.now.script.lines.items
         notes.new.stuck (W.contents writer.old) (W.contents writer.new)) }

@@ -102,7 +102,6 @@ pub fn run_input<E: Runner, L: Listener>(
     options: &Options,
     listener: L,
 ) -> Result<Run, Refusal>
-    requires { E.may_lend }
     ensures ok { IfOk result (λ run. IsRunOfInput input.now (workers_by E.threaded Command.Run options.now.workers)
         options.now.limit run.system run.report run.script.lines.items) }
     ensures err { IfErr result (Allows Command.Run (workers_by E.threaded Command.Run options.now.workers) input.now) }
@@ -120,7 +119,6 @@ fn run_texts<E: Runner, L: Listener>(
     options: &Options,
     listener: L,
 ) -> Result<Run, Refusal>
-    requires { E.may_lend }
     ensures ok { IfOk result (λ run. IsRunOf texts.now (workers_by E.threaded Command.Run options.now.workers)
         options.now.limit run.system run.report run.script.lines.items) }
     ensures err { IfErr result

@@ -24,10 +24,6 @@ pub trait Runner {
     /// Whether there are threads. Without them each run is serial.
     ghost threaded: { Bool };
 
-    /// That it may lend threads what it runs with. The bounds of its type say so, but a method of a trait isn't told of
-    /// these: so each call asks it, and who has the type knows it.
-    ghost may_lend: { Type 0 };
-
     /// Runs a system on a script, cut after so many transitions. While a serial run goes on, the listener hears how far
     /// it is. That the script is one for the system is the caller's condition.
     fn run<L: Listener>(
@@ -39,8 +35,7 @@ pub trait Runner {
         limit: u64,
         listener: L,
     ) -> Result<Report, RunError>
-        requires lent { Self.may_lend }
-        requires script { All (SendsFromEnv system.now) script.now.lines.items }
+        requires { All (SendsFromEnv system.now) script.now.lines.items }
         ensures report { IfOk result (λ report. (ps : List Behaviour) → AreBehaviours system.now ps
             → IsReportBy (workers_by Self.threaded Run workers) ps system.now script.now.lines.items limit report) }
         ensures err { workers_by Self.threaded Run workers ≡ None → IfErr result (λ why. why ≡ RunError.Memory) };
@@ -54,7 +49,6 @@ pub trait Runner {
         system: &System,
         writer: &mut W,
     ) -> Result<(), WriteFault>
-        requires { Self.may_lend }
         ensures ok { OnOk result (Appends (W.contents writer.old) (W.contents writer.new)
             (report_text system.now report.now)) }
         ensures err { OnErr result (BreaksOff (W.contents writer.old) (W.contents writer.new)

@@ -18,8 +18,6 @@ impl Runner for Serial {
 
     ghost threaded = { false };
 
-    ghost may_lend = { Unit {0} };
-
     fn run<L: Listener>(
         &self,
         alloc: Global,

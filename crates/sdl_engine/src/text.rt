@@ -28,7 +28,6 @@ pub fn run_text<E: Runner, R: Read, W: Write>(
     writer: &mut W,
     options: &Options,
 ) -> Result<Outcome, TextFault>
-    requires { E.may_lend }
     ensures ok { IfOk result (λ how. Written (R.remaining reader.old) None (carried E.threaded options.now) how
         (W.contents writer.old) (W.contents writer.new)) }
     ensures err { IfErr result (λ fault. Faulted fault (R.remaining reader.old) None (carried E.threaded options.now)
@@ -53,7 +52,6 @@ pub fn run_and_note<E: Runner, R: Read, S: Read, W: Write, N: Write, L: Listener
     options: &Options,
     listener: L,
 ) -> Result<Outcome, TextFault>
-    requires { E.may_lend }
     ensures ok { IfOk result (λ how. Written (R.remaining source.old.text) (option_map S.remaining source.old.script)
         (carried E.threaded options.now) how (W.contents writer.old) (W.contents writer.new)) }
     ensures err { IfErr result (λ fault. Faulted fault (R.remaining source.old.text)
@@ -93,7 +91,6 @@ fn tell<E: Runner, W: Write, N: Write, L: Listener>(
     options: &Options,
     listener: L,
 ) -> Result<Outcome, TextFault>
-    requires { E.may_lend }
     ensures ok { IfOk result (λ how. Tells input.now (carried E.threaded options.now) how
         (W.contents writer.old) (W.contents writer.new)) }
     ensures err { IfErr result (λ fault. Fails fault input.now (carried E.threaded options.now)
@@ -144,8 +141,7 @@ fn tell_run<E: Runner, W: Write, N: Write, L: Listener>(
     options: &Options,
     listener: L,
 ) -> Result<Outcome, TextFault>
-    requires lent { E.may_lend }
-    requires command { options.now.command ≡ Command.Run }
+    requires { options.now.command ≡ Command.Run }
     ensures ok { IfOk result (λ how. Tells input.now (carried E.threaded options.now) how
         (W.contents writer.old) (W.contents writer.new)) }
     ensures err { IfErr result (λ fault. Fails fault input.now (carried E.threaded options.now)

@@ -10,23 +10,41 @@ use sdl_workers::{Open, run};
 use serial_run::Listener;
 use std::alloc::Global;
 use std::io::Write;
+use std::marker::PhantomData;
 use std::sync::Wait;
 use std::thread::Threads;
 use threads_report::write_report_by_workers;
 
-/// The thread that calls, and the workers that are asked for. Without workers it goes as without threads.
+/// The leave to start threads and to wait for them, of a type that has it. It is for the workers, too: unlike a `T`, it
+/// holds nothing of which a proof would have to know that it may go to another thread.
 #[derive(Drop)]
-pub struct Threaded<'t, T: Threads + Wait + Sync> {
-    pub rt: &'t T,
+struct Leave<T> {
+    of: PhantomData<T>,
 }
 
-impl<'t, T: Threads + Wait + Sync> Runner for Threaded<'t, T> {
+impl<T: Threads> Threads for Leave<T> {}
+
+impl<T: Wait> Wait for Leave<T> {}
+
+/// The thread that calls, and the workers that are asked for. Without workers it goes as without threads.
+#[derive(Drop)]
+pub struct Threaded<T: Threads + Wait + Sync> {
+    leave: Leave<T>,
+}
+
+impl<T: Threads + Wait + Sync> Threaded<T> {
+    /// With the threads of this handle.
+    pub fn new(_rt: &T) -> Self {
+        Threaded {
+            leave: Leave { of: PhantomData },
+        }
+    }
+}
+
+impl<T: Threads + Wait + Sync> Runner for Threaded<T> {
     ghost use Rattle.std.specs.Prelude.{true};
-    ghost use Rattle.std.specs.Thread.{IsSync};
 
     ghost threaded = { true };
-
-    ghost may_lend = { IsSync T.row };
 
     fn run<L: Listener>(
         &self,
@@ -40,7 +58,7 @@ impl<'t, T: Threads + Wait + Sync> Runner for Threaded<'t, T> {
         match workers {
             None => Serial.run(alloc, system, script, None, limit, listener),
             Some(count) => run(
-                &self.rt,
+                &&self.leave,
                 alloc,
                 system,
                 script,
@@ -63,7 +81,7 @@ impl<'t, T: Threads + Wait + Sync> Runner for Threaded<'t, T> {
             None => Serial.write_report(alloc, None, report, system, writer),
             Some(count) => {
                 let count = usize::from(count);
-                write_report_by_workers(self.rt, alloc, count, report, system, writer)
+                write_report_by_workers(&self.leave, alloc, count, report, system, writer)
             }
         }
     }

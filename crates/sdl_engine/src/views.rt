@@ -22,7 +22,6 @@ pub fn write_view<E: Runner, W: Write>(
     workers: Option<u8>,
     writer: &mut W,
 ) -> Result<Option<u32>, TextFault>
-    requires { E.may_lend }
     ensures ok { IfOk result (λ stuck. TellsRun view run.now.system run.now.report run.now.script.lines.items stuck
         (W.contents writer.old) (W.contents writer.new)) }
     ensures err { IfErr result (λ fault. FailsToTellRun fault view run.now.system run.now.report
@@ -44,7 +43,6 @@ fn write_trace<E: Runner, W: Write>(
     workers: Option<u8>,
     writer: &mut W,
 ) -> Result<Option<u32>, TextFault>
-    requires { E.may_lend }
     ensures ok { IfOk result (λ stuck. TellsRun View.Trace run.now.system run.now.report
         run.now.script.lines.items stuck (W.contents writer.old) (W.contents writer.new)) }
     ensures err { IfErr result (λ fault. FailsToTellRun fault View.Trace run.now.system run.now.report

@@ -194,7 +194,7 @@ fn tell_to<T: Threads + Wait + Copy + Send + Sync, W: Write>(
             progress,
         )
     } else {
-        let runner = Threaded { rt: threads };
+        let runner = Threaded::new(threads);
         run_and_note(&runner, rt.alloc(), source, writer, notes, options, Nobody)
     }
 }

@@ -255,7 +255,7 @@ fn knows_no_answers_of_workers(rt: HostRuntime) {
     let mut notes = notes(rt.alloc(), true);
     let mut written = Vec::new(rt.alloc());
     let outcome = run_and_note(
-        &Threaded { rt: &rt },
+        &Threaded::new(&rt),
         rt.alloc(),
         &mut source(TEXT),
         &mut written,

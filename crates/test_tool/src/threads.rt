@@ -34,7 +34,7 @@ fn expect_cut<R: Threads + Wait + Copy + Send + Sync + Abort>(rt: &R, alloc: Glo
     };
     let mut written = Vec::new(alloc);
     let told = run_text(
-        &Threaded { rt },
+        &Threaded::new(rt),
         alloc,
         &mut PING_PONG.as_bytes(),
         &mut written,
@@ -92,7 +92,7 @@ fn expect_write_fault<R: Threads + Wait + Copy + Send + Sync + Abort>(
         fails,
     };
     let told = run_text(
-        &Threaded { rt },
+        &Threaded::new(rt),
         alloc,
         &mut PING_PONG.as_bytes(),
         &mut writer,
@@ -158,7 +158,7 @@ fn report<R: Threads + Wait + Copy + Send + Sync + Abort>(
     };
     let mut written = Vec::new(alloc);
     let told = run_text(
-        &Threaded { rt },
+        &Threaded::new(rt),
         alloc,
         &mut text.as_bytes(),
         &mut written,
@@ -207,7 +207,7 @@ fn expect_text<R: Threads + Wait + Copy + Send + Sync + Abort>(
     };
     let mut written = Vec::new(alloc);
     let told = run_text(
-        &Threaded { rt },
+        &Threaded::new(rt),
         alloc,
         &mut text.as_bytes(),
         &mut written,

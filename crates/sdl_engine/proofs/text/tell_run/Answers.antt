@@ -12,8 +12,8 @@ returns-in-Ok-clause-ok g c =
     let threaded = g.E.Runner.threaded in
     let options = c.args.options.now in
     run_tells c.args.input.now (carried threaded options) (workers_by threaded command.Run options.workers) run.system
-    run.report run.script.lines.items _ _ _ c.report-told.result c.requires.command
-    (ap (λ how. workers_by threaded how options.workers) c.requires.command) c.in-Ok.ensures.ok c.report-told.ensures.how
+    run.report run.script.lines.items _ _ _ c.report-told.result c.requires
+    (ap (λ how. workers_by threaded how options.workers) c.requires) c.in-Ok.ensures.ok c.report-told.ensures.how
     c.report-told.ensures.ok
 
 pub returns-in-Ok-clause-err : goal.returns-in-Ok-clause-err
@@ -22,12 +22,12 @@ returns-in-Ok-clause-err g c =
     let threaded = g.E.Runner.threaded in
     let options = c.args.options.now in
     run_fails c.args.input.now (carried threaded options) (workers_by threaded command.Run options.workers) run.system
-    run.report run.script.lines.items _ _ c.report-told.result c.requires.command
-    (ap (λ how. workers_by threaded how options.workers) c.requires.command) c.in-Ok.ensures.ok c.report-told.ensures.err
+    run.report run.script.lines.items _ _ c.report-told.result c.requires
+    (ap (λ how. workers_by threaded how options.workers) c.requires) c.in-Ok.ensures.ok c.report-told.ensures.err
 
 pub returns-in-Ok-clause-quiet : goal.returns-in-Ok-clause-quiet
 returns-in-Ok-clause-quiet g c = λ cut none order.
-    Keeps-trans _ _ _ (c.report-told.ensures.quiet cut (order c.requires.command))
+    Keeps-trans _ _ _ (c.report-told.ensures.quiet cut (order c.requires))
     (Keeps-trans _ _ _
     (c.note_failures.ensures.quiet (λ tells. grind (arith, c.keep_run.ensures.rest, none tells)))
     c.keep_run.ensures.quiet)
@@ -46,8 +46,8 @@ returns-in-Err-clause-ok g c =
     let threaded = g.E.Runner.threaded in
     let options = c.args.options.now in
     refused_by command.Run (workers_by threaded command.Run options.workers) c.args.input.now
-    (carried threaded options) c.in-Err.refusal _ _ c.refuse.result c.requires.command
-    (ap (λ how. workers_by threaded how options.workers) c.requires.command) c.in-Err.ensures.err c.refuse.ensures.how
+    (carried threaded options) c.in-Err.refusal _ _ c.refuse.result c.requires
+    (ap (λ how. workers_by threaded how options.workers) c.requires) c.in-Err.ensures.err c.refuse.ensures.how
     c.refuse.ensures.ok
 
 pub returns-in-Err-clause-err : goal.returns-in-Err-clause-err
@@ -55,8 +55,8 @@ returns-in-Err-clause-err g c =
     let threaded = g.E.Runner.threaded in
     let options = c.args.options.now in
     failed_by command.Run (workers_by threaded command.Run options.workers) c.args.input.now
-    (carried threaded options) c.in-Err.refusal _ _ c.refuse.result c.requires.command
-    (ap (λ how. workers_by threaded how options.workers) c.requires.command) c.in-Err.ensures.err c.refuse.ensures.err
+    (carried threaded options) c.in-Err.refusal _ _ c.refuse.result c.requires
+    (ap (λ how. workers_by threaded how options.workers) c.requires) c.in-Err.ensures.err c.refuse.ensures.err
 
 pub returns-in-Ok-clause-told_failed : goal.returns-in-Ok-clause-told_failed
 returns-in-Ok-clause-told_failed g c = λ start.
@@ -64,8 +64,8 @@ returns-in-Ok-clause-told_failed g c = λ start.
     let threaded = g.E.Runner.threaded in
     let options = c.args.options.now in
     run_failed c.args.input.now (carried threaded options) (workers_by threaded command.Run options.workers)
-    c.in-Ok.run' c.report-told.new.notes.stuck notes.stuck notes.failed _ _ c.report-told.result c.requires.command
-    (ap (λ how. workers_by threaded how options.workers) c.requires.command) c.in-Ok.ensures.ok c.report-told.ensures.how
+    c.in-Ok.run' c.report-told.new.notes.stuck notes.stuck notes.failed _ _ c.report-told.result c.requires
+    (ap (λ how. workers_by threaded how options.workers) c.requires) c.in-Ok.ensures.ok c.report-told.ensures.how
     c.report-told.ensures.ok (grind (arith, c.note_failures.ensures.rest, c.keep_run.ensures.rest))
     (grind (arith, c.note_failures.ensures.failed, c.keep_run.ensures.rest))
 
