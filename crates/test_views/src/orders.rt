@@ -1,4 +1,4 @@
-//! Reports whose records come from two runs: one as a run on threads may have it, and two that no order tells.
+//! Reports whose records come from two runs: two as a run on threads may have them, and two that no order tells.
 
 use crate::texts::{in_json, in_lines, report_of, system_of};
 use run_record::Report;
@@ -163,6 +163,71 @@ end 6 whole
 order: not known from #1 on
 ";
 
+/// A teller sends to the number that it's told. A maker creates who has that number.
+static TOLD: &str = "system Told;
+
+signal tell(Pid), make, first, second;
+
+process Teller;
+  dcl to_whom Pid;
+
+  start;
+    nextstate telling;
+
+  state telling;
+    input tell(to_whom);
+      output first, second to to_whom;
+      nextstate -;
+  endstate telling;
+endprocess Teller;
+
+process Maker;
+  start;
+    nextstate making;
+
+  state making;
+    input make;
+      create Taker;
+      nextstate -;
+  endstate making;
+endprocess Maker;
+
+process Taker (0, 1);
+  start;
+    nextstate taking;
+
+  state taking;
+    input first, second;
+      nextstate -;
+  endstate taking;
+endprocess Taker;
+
+endsystem Told;
+";
+
+static TOLD_LINES: &str = "0 #1 Teller start
+  nextstate telling
+0 #2 Maker start
+  nextstate making
+1 #2 Maker input make from env
+  create Taker #3
+  nextstate making
+1 #1 Teller input tell(#3) from env
+  output first to #3
+  output second to #3
+  nextstate telling
+1 #3 Taker start
+  nextstate taking
+2 #3 Taker input first from #1
+  nextstate taking
+2 #3 Taker input second from #1
+  nextstate taking
+#1 Teller rest telling
+#2 Maker rest making
+#3 Taker rest taking
+end 2 whole
+";
+
 /// A reader takes what a writer sends once the environment asks for it.
 static UNSENT: &str = "system Unsent;
 
@@ -214,6 +279,16 @@ fn sends_after_the_create(rt: HostRuntime) {
     let report = mixed(&rt, rt.alloc(), &system, "6\n", "0 slow\n6\n", 0);
     let lines = in_lines(rt.alloc(), &system, &report, 1).expect(&rt, "lines");
     assert!(rt; lines.as_slice() == LATE_LINES.as_bytes());
+}
+
+/// What is sent to a number waits for the create of who has it, if that takes it all.
+#[test]
+fn sends_to_a_number_after_the_create(rt: HostRuntime) {
+    let system = system_of(&rt, rt.alloc(), TOLD);
+    let (apart, together) = ("1 make\n2 tell(#3)\n", "1 make\n1 tell(#3)\n2\n");
+    let report = mixed(&rt, rt.alloc(), &system, apart, together, 0);
+    let lines = in_lines(rt.alloc(), &system, &report, 2).expect(&rt, "lines");
+    assert!(rt; lines.as_slice() == TOLD_LINES.as_bytes());
 }
 
 /// Nobody makes the whole of its transition first.

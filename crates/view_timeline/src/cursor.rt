@@ -68,6 +68,13 @@ impl<'r> Cursor<'r> {
         self.passed
     }
 
+    /// The events that are left.
+    pub fn events(&self) -> Reader<'r>
+        ensures { result ≡ self.now.left }
+    {
+        self.events.again()
+    }
+
     /// The next event, if there is one.
     pub fn next(&self) -> Option<Next<'r>>
         ensures left { MatchOption result (self.now.left ≡ [])

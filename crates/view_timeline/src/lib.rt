@@ -6,6 +6,7 @@
 //! report alone. `specs/Timeline.antt` says what a timeline of a report is.
 #![tactic(auto)]
 
+mod awaited;
 mod channel;
 mod cursor;
 mod early;

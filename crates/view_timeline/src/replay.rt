@@ -7,6 +7,8 @@ ghost use Rattle.view_timeline.specs.Telling.{AllDone, Closing, HasLeft, IsUpTo,
 ghost use Rattle.view_timeline.specs.Moves.{EachOnce};
 ghost use Rattle.view_timeline.specs.Timeline.{AllTakes, AreArrows, AreInOrder, AreLiving, AreLookedUp, IsElseUnlinked, IsForward, IsUntold, IsWaiting};
 
+use crate::awaited::Awaited;
+use crate::cursor::Next;
 use crate::entries::{is_from_outside, time_of};
 use crate::moves::{RecordId, Timeline};
 use crate::sweep::Sweep;
@@ -60,6 +62,10 @@ struct Replay<'r> {
     later: BTreeSet<Later>,
     /// How many instances had begun when those were woken that send too early.
     begun: usize,
+    /// Which outputs came after the create of their receiver, and those whose next transition makes one of them before
+    /// that.
+    awaited: Awaited,
+    awaiting: BTreeSet<u32>,
 }
 
 /// An instance goes on at this time.
@@ -81,6 +87,8 @@ impl<'r> Replay<'r> {
             heard: false,
             later: BTreeSet::new(alloc),
             begun: 0,
+            awaited: Awaited::new(alloc, &report.records)?,
+            awaiting: BTreeSet::new(alloc),
         })
     }
 
@@ -184,6 +192,7 @@ impl<'r> Replay<'r> {
         self.begun = begun;
         let mut early = replace(&mut self.telling.early, BTreeSet::new(alloc));
         wake_all(&mut early, &mut self.telling.traffic.sweep)?;
+        wake_all(&mut self.awaiting, &mut self.telling.traffic.sweep)?;
         Ok(())
     }
 
@@ -215,7 +224,22 @@ impl<'r> Replay<'r> {
         if !self.heard && is_from_outside(&next.entry) {
             return Ok(false);
         }
+        let awaits = self.awaits_create(alloc, &next)?;
+        if awaits {
+            self.awaiting.insert(number)?;
+            return Ok(false);
+        }
         self.telling.transition(alloc, record)
+    }
+
+    /// Whether this transition is to wait: the create of an instance to which it sends came before.
+    fn awaits_create(&self, alloc: Global, next: &Next<'_>) -> Result<bool, AllocError> {
+        let traffic = &self.telling.traffic;
+        if traffic.begun.len() == self.telling.cursors.len() {
+            return Ok(false);
+        }
+        self.awaited
+            .is_ahead(alloc, traffic, next.number, &next.rest)
     }
 
     /// What the environment sends at time 0 is heard, or the clock moves. Says whether there was anything to wait for.
