@@ -21,7 +21,7 @@ use std::thread::Threads;
 /// Writes a report, as `sdl_report::write_report` does. At most `workers` threads make its text, the calling one among
 /// them; with one worker, or of a short report, the calling one alone.
 ///
-/// The text isn't held whole: each thread makes the text of up to 16,384 lines, and then these texts go out. So each
+/// The text isn't held whole: each thread makes the text of up to 65,536 lines, and then these texts go out. So each
 /// worker takes at most twice the bytes of so many lines, and a page of 33 KB, whatever the length of the report. Where
 /// there is no memory for one of these texts, its lines go out one after the other, as those of a serial run do.
 pub fn write_report_by_workers<T: Threads + Sync, W: Write>(

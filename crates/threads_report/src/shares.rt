@@ -9,9 +9,9 @@ use run_record::Record;
 /// So many lines at least are worth a thread.
 const LEAST_LINES: usize = 1_024;
 
-/// So many lines at most a thread makes before they go out: some 400 KB of text. With fewer, the start of the threads
+/// So many lines at most a thread makes before they go out: some 1.6 MB of text. With fewer, the start of the threads
 /// would be too much of a round.
-const MOST_LINES: usize = 16_384;
+const MOST_LINES: usize = 65_536;
 
 /// How many threads make a report's text, and of how many lines at once each.
 #[derive(Drop)]
@@ -21,11 +21,11 @@ pub struct Shares {
 }
 
 /// How so many lines are shared: among at most so many workers, with 1,024 lines and more for each, and in pieces of at
-/// most 16,384 lines. None if one thread is enough.
+/// most 65,536 lines. None if one thread is enough.
 pub fn shares_of(workers: usize, lines: usize) -> Option<Shares>
     ensures threads { IfSome result (λ shares. shares.threads ≡ min workers (lines / 1024)) }
     ensures several { IfSome result (λ shares. 1 < shares.threads) }
-    ensures lines { IfSome result (λ shares. shares.lines ≡ min (lines / shares.threads) 16383 + 1) }
+    ensures lines { IfSome result (λ shares. shares.lines ≡ min (lines / shares.threads) 65535 + 1) }
     ensures one { IfNone result (min workers (lines / 1024) < 2) }
 {
     let threads = workers.min(lines / LEAST_LINES);
