@@ -109,7 +109,7 @@ static LONG: [&str; 3] = [
 state s; provided n < 1000; task n := n + 1; nextstate -; endprocess; endsystem;
 ",
     "system S; process P; dcl n Integer := 0; start; nextstate s;
-state s; provided n < 15000; task n := n + 1; nextstate -; endprocess; endsystem;
+state s; provided n < 50000; task n := n + 1; nextstate -; endprocess; endsystem;
 ",
     "system S; process Q (3); start; stop; endprocess;
 process P; dcl n Integer := 0; start; nextstate s;
