@@ -1,3 +1,4 @@
+pub mod AnswerLaws
 pub mod EscapeLaws
 pub mod JudgeLaws
 pub mod TallyLaws
