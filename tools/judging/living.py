@@ -1,6 +1,7 @@
 """Who lived when: whom signals may reach, and when a create gives no number."""
 
 from dataclasses import dataclass, field
+from functools import cached_property
 
 from judging.order import Order
 from judging.replay import Asked, Sent, Story
@@ -117,11 +118,13 @@ class Living:
         if asked.number is not None:
             living = sum(self.lives_before(other, story, asked) for other in others)
             story.demand(most is None or living < most, f"{asked}, though {living} live, as many as may")
-        elif len(self.stories) < MOST_INSTANCES and not self.is_memory_wanting():
+        elif len(self.stories) < MOST_INSTANCES and not self.is_memory_wanting:
             living = sum(self.may_live_before(other, story, asked) for other in others)
             story.demand(most is not None and living >= most, f"{asked}, though no more than {living} live")
 
+    @cached_property
     def is_memory_wanting(self) -> bool:
+        """Whether an instance has failed for lack of memory. Asked once, since each null of a create asks."""
         return any(line.endswith("failed Memory") for story in self.stories.values() for line in story.record.lines)
 
     def lives_before(self, other: Story, story: Story, asked: Asked) -> bool:
