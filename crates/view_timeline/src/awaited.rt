@@ -40,6 +40,9 @@ impl Awaited {
         for record in records {
             count_takes(alloc, &mut channels, record)?;
         }
+        if channels.is_empty() {
+            return Ok(Awaited { channels });
+        }
         for record in records {
             find_outputs(&mut channels, record)?;
         }
