@@ -1,8 +1,9 @@
 //! The owner of a shared port, with the port, as an inbox.
 #![tactic(auto, using(crate::proofs::Keeping::kept))]
 
-ghost use Rattle.std.specs.Prelude.{◌≡◌, [], true, length, not, All};
+ghost use Rattle.std.specs.Prelude.{◌≡◌, [], true, length, not, All, IfSome};
 ghost use Rattle.input_port.specs.Words.{due_times, signals_drawn, DrainIs, GatherHereIs, HasDrawnHere, IsKept, IsKnowing, IsLeast, IsTimely, LeaveIs};
+ghost use Rattle.port_queue.specs.Kept.{senders_of};
 
 use crate::{Owner, since};
 use port_inbox::{Entry, Fuse, Inbox, Refused};
@@ -56,6 +57,34 @@ impl<'a, R: Wait + Copy> Held<'a, R> {
             since,
             stopped: false,
         }
+    }
+
+    /// The same, which keeps the number of the sender of each entry that it draws, as far as there is memory for it.
+    /// That the owner has drawn nothing is the caller's condition.
+    pub fn keeping(rt: R, port: &'a Port, owner: Owner) -> Self
+        requires port { owner.port ≡ port.now.queue }
+        requires drawn { owner.drawn ≡ [] }
+        ensures inbox { result ≡ record { owner = owner; since = [] } }
+        ensures alive { result.owner.state.alive ≡ true }
+    {
+        let mut held = Held::new(rt, port, owner);
+        held.receiver.keep_puts();
+        held
+    }
+
+    /// How many entries have been drawn, before a stop and since. None: the numbers of their senders aren't kept.
+    pub fn drawn(&self) -> Option<u32>
+        ensures { IfSome result (λ count. count ≡ length self.now.owner.drawn) }
+    {
+        self.receiver.drawn()
+    }
+
+    /// Of each entry that was drawn the number of its sender, in the order in which they were drawn. None: the numbers
+    /// aren't kept.
+    pub fn into_puts(self) -> Option<Vec<u32>>
+        ensures { IfSome result (λ puts. puts.items ≡ senders_of self.entry.owner.drawn) }
+    {
+        self.receiver.into_puts()
     }
 
     /// How many senders have been gathered and not handed back.

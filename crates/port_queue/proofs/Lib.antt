@@ -1,4 +1,5 @@
 pub mod Drawing
+pub mod Keeping
 pub mod Meeting
 pub mod Moves
 pub mod Passes

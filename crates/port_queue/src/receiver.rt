@@ -1,6 +1,7 @@
 //! What draws from a port, for an owner that lives and for one that has stopped. The atomic steps are those of `steps`.
-ghost use Rattle.std.specs.Prelude.{◌≡◌, ◌↔◌, ◌<◌, ◌+◌, ◌-◌, ◌^◌, [], ◌∷◌, ◌≤◌, true, None, length, count_by, Contains, IfErr, IfOk, IsErrOf, MatchOption};
-ghost use Rattle.port_queue.specs.Words.{after_draw, after_draws, after_reset, after_stop, armed_left, due_times, is_active, is_signal, left_with, newborn, owner, popped_list, signals_drawn, AreWaiting, DrainIs, GatherIs, HasDrawn, IsDrawn, IsGathered, IsKnowing, IsLeast, IsSegPassOf, MeetIs, MOST_SETS, NextIs, NothingWaits, Placed, PullIs, SetIs, TakeIs, TakesIn};
+ghost use Rattle.std.specs.Prelude.{◌≡◌, ◌↔◌, ◌<◌, ◌+◌, ◌-◌, ◌^◌, [], ◌∷◌, ◌≤◌, true, None, length, count_by, Contains, IfErr, IfOk, IfSome, IsErrOf, MatchOption};
+ghost use Rattle.port_queue.specs.Words.{after_draw, after_draws, after_reset, after_stop, armed_left, due_times, is_active, is_signal, left_with, newborn, owner, popped_list, signals_drawn, AreWaiting, DrainIs, GatherIs, HasDrawn, IsDrawn, IsGathered, IsKnowing, IsLeast, IsSegPassOf, MeetIs, MOST_SETS, NextIs, NothingWaits, PullIs, SetIs, TakeIs, TakesIn};
+ghost use Rattle.port_queue.specs.Kept.{senders_of, NotesSenders};
 ghost use Rattle.port_model.specs.Take.{Takes};
 ghost use Rattle.port_model.specs.declared.selection.Class.TheVariants as class;
 
@@ -10,12 +11,14 @@ use crate::{Finished, Port, Sender, steps};
 use port_inbox::{Entry, Fuse, Placed, Refused, fused};
 use port_model::{PlainPort, PortError, Selection, Taken};
 use port_values::{Ticks, TimerKey};
+use run_course::KeptWords;
 use std::alloc::Global;
 use std::marker::Model;
 use std::sync::Wait;
 
 /// The receiver of a port, for an owner that lives and for one that has stopped. It has its pass, its own port of one
-/// thread, and the counts of the senders gathered and of the signals drawn.
+/// thread, and the counts of the senders gathered and of the signals drawn. Where that was asked for, `puts` has the
+/// number of the sender of each entry that was drawn.
 #[derive(Drop)]
 pub struct Receiver {
     alloc: Global,
@@ -24,12 +27,15 @@ pub struct Receiver {
     plain: PlainPort,
     gathered: u64,
     signals: u64,
+    puts: KeptWords,
 }
 
 impl Model for Receiver {
     ghost use Rattle.std.specs.Prelude.{◌≡◌, None};
     ghost use Rattle.port_inbox.specs.Ends.{OwnerState};
     ghost use Rattle.port_queue.specs.Ends.{IsOfOwner};
+    ghost use Rattle.port_queue.specs.Kept.{senders_of};
+    ghost use Rattle.run_course.specs.KeptWords.{IsKeptOf};
 
     ghost Value = { OwnerState };
 
@@ -44,7 +50,7 @@ impl Model for Receiver {
     } };
 
     ghost invariant = { λ o. IsOfOwner o.pass.me.view.client o.gathered o.signals × (o.pass.me.hand ≡ None)
-        × (o.pass.me.spare ≡ None) };
+        × (o.pass.me.spare ≡ None) × IsKeptOf o.puts (senders_of o.pass.me.view.client.drawn) };
 }
 
 impl Receiver {
@@ -61,7 +67,32 @@ impl Receiver {
             plain: PlainPort::new(alloc),
             gathered: 0,
             signals: 0,
+            puts: KeptWords::off(),
         }
+    }
+
+    /// From now on the number of the sender of each entry is kept that is drawn, as far as there is memory for it. That
+    /// nothing was drawn is the caller's condition.
+    pub fn keep_puts(&mut self)
+        requires { self.old.drawn ≡ [] }
+        ensures { self.new ≡ self.old }
+    {
+        self.puts = KeptWords::new(self.alloc);
+    }
+
+    /// How many entries have been drawn. None: the numbers of their senders aren't kept.
+    pub fn drawn(&self) -> Option<u32>
+        ensures { IfSome result (λ count. count ≡ length self.now.drawn) }
+    {
+        self.puts.count()
+    }
+
+    /// Of each entry that was drawn the number of its sender, in the order in which they were drawn. None: the numbers
+    /// aren't kept.
+    pub fn into_puts(self) -> Option<Vec<u32>>
+        ensures { IfSome result (λ puts. puts.items ≡ senders_of self.drawn) }
+    {
+        self.puts.into_list()
     }
 
     /// How many senders have been gathered and not handed back.
@@ -180,6 +211,7 @@ impl Receiver {
             return Ok(None);
         };
         self.signals += placed.signals();
+        note_put(&mut self.puts, &placed);
         let taken = fused::take_drawn(&mut self.plain, self.pid, placed, selection);
         Ok(Some(taken))
     }
@@ -284,6 +316,7 @@ impl Receiver {
             None => Ok(false),
             Some(placed) => {
                 self.signals += placed.signals();
+                note_put(&mut self.puts, &placed);
                 fused::draw(&mut self.plain, self.pid, placed);
                 Ok(true)
             }
@@ -311,6 +344,7 @@ impl Receiver {
         }
         let popped = take_in(rt, &port.queue, &mut self.pass, sender.into_pass());
         self.signals += signals_in(&popped);
+        note_popped(&mut self.puts, &popped);
         draw_popped(&mut self.plain, self.pid, popped);
         self.gathered += 1;
         Ok(())
@@ -336,6 +370,7 @@ impl Receiver {
         let tally = sender.tally();
         let popped = take_in(rt, &port.queue, &mut self.pass, sender.into_pass());
         self.signals += signals_in(&popped);
+        note_popped(&mut self.puts, &popped);
         draw_popped(&mut self.plain, self.pid, popped);
         let pass = steps::split_again(&port.queue, &mut self.pass);
         Ok(Sender::again(pass, tally))
@@ -400,6 +435,7 @@ impl Receiver {
     {
         let popped = steps::pop(rt, &port.queue, &mut self.pass);
         self.signals += signals_in(&popped);
+        note_popped(&mut self.puts, &popped);
         popped
     }
 
@@ -419,6 +455,7 @@ impl Receiver {
         let popped = take_in(rt, &port.queue, &mut self.pass, sender.into_pass());
         self.gathered += 1;
         self.signals += signals_in(&popped);
+        note_popped(&mut self.puts, &popped);
         popped
     }
 
@@ -454,6 +491,25 @@ fn signals_in(popped: &Option<Placed>) -> u64
     match popped {
         None => 0,
         Some(placed) => placed.signals(),
+    }
+}
+
+/// Notes the number of the sender of an entry that is drawn.
+#[inline(always)]
+fn note_put(puts: &mut KeptWords, placed: &Placed)
+    ensures { NotesSenders puts.old (placed.now ∷ []) puts.new }
+{
+    puts.note(placed.number.get());
+}
+
+/// Notes the number of the sender of what was popped.
+#[inline(always)]
+fn note_popped(puts: &mut KeptWords, popped: &Option<Placed>)
+    ensures { NotesSenders puts.old (popped_list popped.now) puts.new }
+{
+    match popped {
+        None => {}
+        Some(placed) => note_put(puts, placed),
     }
 }
 

@@ -3,7 +3,8 @@
 ghost use Rattle.std.specs.Prelude.{◌≡◌, true};
 
 use crate::calls::{are_left, consumed, item, key, put, selection, with_sender};
-use input_port::Held;
+use input_port::birth::port;
+use input_port::{Held, NewPort};
 use port_inbox::{Alone, Fuse, Inbox};
 use port_model::Class;
 use port_values::Ticks;
@@ -53,6 +54,30 @@ fn uses_held(rt: HostRuntime) {
         panic!(rt; "no memory to finish");
     };
     assert!(rt; are_left(end.entries(), &[(3, 1)]));
+}
+
+/// The senders of three entries: one is taken, and two are drawn after a stop.
+#[test]
+fn keeps_who_puts(rt: HostRuntime) {
+    let alloc = rt.alloc();
+    let NewPort {
+        port,
+        owner,
+        mut desk,
+    } = port(alloc, 7).expect(&rt, "memory");
+    let mut first = desk.sender(&port).expect(&rt, "a sender");
+    let mut second = desk.sender(&port).expect(&rt, "a sender");
+    put(&rt, alloc, &port, &mut second, &[(0, 1)]);
+    put(&rt, alloc, &port, &mut first, &[(0, 2)]);
+    let mut held = Held::keeping(rt, &port, owner);
+    let inputs = selection(&rt, alloc, &[Class::Input]);
+    assert!(rt; consumed(held.take(&inputs)) == Some((0, 1)));
+    assert!(rt; held.drawn() == Some(1));
+    held.stop();
+    put(&rt, alloc, &port, &mut second, &[(0, 3)]);
+    assert!(rt; held.drain().is_ok());
+    let puts = held.into_puts().expect(&rt, "memory");
+    assert!(rt; puts.as_slice() == [2, 1, 2].as_slice());
 }
 
 /// Sets timer 2.

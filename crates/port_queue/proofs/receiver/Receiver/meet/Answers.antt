@@ -1,4 +1,4 @@
-use Rattle.std.proofs.Common.{rules}
+use Rattle.std.proofs.Common.{◌∙◌, ap, rules}
 use Rattle.port_queue.specs.Calls.{popped_list}
 use Rattle.port_queue.proofs.Meeting.{comes_back, counted_more, given_back}
 use Rattle.port_queue.proofs.receiver.Receiver.meet.Goals as goal
@@ -22,4 +22,6 @@ invariant_of-self-2 g c = (
       (counted_more c.self.inside.pass.me.view.client.drawn _ (popped_list c.take_in-popped.result) _ _ c.take_in-popped.ensures.taken.drawn c.self.invariant.0.signals_are c.signals_in.ensures.count),
   search rules,
   search rules,
+  c.note_popped.ensures c.self.inside.pass.me.view.client.drawn _
+      (ap (λ v. v.drawn) c.split_again-pass.ensures.owner ∙ c.take_in-popped.ensures.taken.drawn) c.self.invariant.3,
 )
