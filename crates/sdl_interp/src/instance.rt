@@ -160,6 +160,13 @@ impl<'s, P: Inbox + Drop> Instance<'s, P> {
         &self.core.machine.trace
     }
 
+    /// The port of the instance.
+    pub fn inbox(&self) -> &P
+        ensures { P.owning result.now ≡ self.now.owner }
+    {
+        &self.core.inbox
+    }
+
     /// Who the instance is.
     pub fn who(&self) -> Identity
         ensures { result ≡ self.now.who }

@@ -1,4 +1,5 @@
 pub mod Beginning
+mod CourseLemmas
 pub mod EffectLemmas
 pub mod Leaving
 pub mod Puts

@@ -4,6 +4,7 @@ use Rattle.std.specs.declared.alloc.Global.{Global}
 use Rattle.crossbeam_queue.specs.SegTies.{SegId}
 use Rattle.port_values.specs.declared.item.Item.{Item}
 use Rattle.port_values.specs.declared.value.Value.{Value}
+use Rattle.run_course.specs.declared.course_log.CourseLog.{CourseLog}
 use Rattle.sdl_interp.specs.Instance.{InstanceValue, IsRunAs}
 use Rattle.sdl_system.specs.System.{SystemValue}
 use Rattle.threads_instance.specs.Outbox.{sent_in}
@@ -16,7 +17,7 @@ use Rattle.run_semantics.specs.World.{has_port}
 
 -- What a caller sees of a thread instance: the instance, its senders, and all signals that it sent to instances that have
 -- a port, in their order, each after the number of its target; the values that its parameters got, all that it has done
--- outside of itself, and its children.
+-- outside of itself, and its children; and what is kept of its course.
 pub record ThreadInstanceState : Type 0 where
   pub instance : InstanceValue
   pub peers : PeersState
@@ -24,6 +25,7 @@ pub record ThreadInstanceState : Type 0 where
   pub given : List Value
   pub effects : List Effect
   pub children : List Child
+  pub course : CourseLog
 
 -- Where the process of the instance means something, just what its events say was sent to each instance that has a port.
 abbrev pub HasSent : InstanceValue → List (ℕ × Item) → Type 0

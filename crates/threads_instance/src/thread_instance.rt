@@ -1,7 +1,8 @@
 //! An instance with its senders.
 
-ghost use Rattle.std.specs.Prelude.{◌≡◌, [], IsTrue, MatchResult, Some, slice_get};
+ghost use Rattle.std.specs.Prelude.{◌≡◌, [], IsTrue, MatchOption, MatchResult, None, Some, length, slice_get};
 ghost use Rattle.port_model.specs.Port.{empty_port};
+ghost use Rattle.run_course.specs.KeptWords.{Notes, NotesAll, emptied};
 ghost use Rattle.sdl_interp.specs.Instance.{HasNothing, HasRunOf, IsAtRest, IsClosed, IsRunAs, Keeps, NeedsStep, Steps, created};
 ghost use Rattle.threads_instance.specs.Doings.{children_of};
 ghost use Rattle.threads_instance.specs.RunBy.{HasRunBy};
@@ -14,8 +15,10 @@ use crate::doings::Doings;
 use crate::outbox::Outbox;
 use crate::thread_world::ThreadWorld;
 use crate::{Gifts, Runtime};
+use input_port::Held;
 use port_inbox::Inbox;
 use port_values::{Ticks, Values};
+use run_course::{CourseLog, KeptWords};
 use run_evaluation::Identity;
 use run_record::Record;
 use sdl_interp::{Ahead, Closed, Instance, Stepped};
@@ -26,9 +29,9 @@ use std::mem;
 use std::sync::Wait;
 use threads_senders::{Peers, Run};
 
-/// An instance of a process in a run on threads, with its senders, in its seat: of the run's system, and with the port of
-/// its number. What was put into each port is the end of what its record sends there. It began with the values that are
-/// given, and has done just what is noted.
+/// An instance of a process in a run on threads, with its senders, in its seat: of the run's system, and with the port
+/// of its number. What was put into each port is the end of what its record sends there. It began with the values that
+/// are given, and has done just what is noted. What is kept of its course is for who makes its steps to note.
 #[derive(Drop)]
 pub struct ThreadInstance<'s, J: Run, P: Inbox + Drop> {
     system: &'s System,
@@ -36,6 +39,7 @@ pub struct ThreadInstance<'s, J: Run, P: Inbox + Drop> {
     outbox: Outbox<J>,
     given: Values,
     doings: Doings,
+    course: CourseLog,
 }
 
 impl<'s, J: Run, P: Inbox + Drop> Model for ThreadInstance<'s, J, P> {
@@ -56,26 +60,29 @@ impl<'s, J: Run, P: Inbox + Drop> Model for ThreadInstance<'s, J, P> {
       given = m.given;
       effects = m.doings.effects;
       children = m.doings.children;
+      course = m.course;
     } };
 
     ghost invariant = { λ m. (m.instance.system ≡ m.system.now) × HasSent m.instance m.outbox.sent
         × IsSeated J.system J.ports m.instance × HasRunBy P.shared m.instance m.given m.doings.effects };
 }
 
-/// A closed instance: its record, its port, and its senders, which are to be gathered at their ports; and what it was
-/// given, and gave to those that it created.
+/// A closed instance: its record, its port, and its senders, which are to be gathered at their ports; what it was given,
+/// and gave to those that it created; and what is kept of its course.
 #[derive(Drop)]
 pub struct Left<J: Run, P: Inbox + Drop> {
     pub trace: Record,
     pub inbox: P,
     pub peers: Peers<J>,
     pub gifts: Gifts,
+    pub course: CourseLog,
 }
 
 impl<'s, J: Run, P: Inbox + Drop> ThreadInstance<'s, J, P> {
     /// An instance before its start, as `Instance::new` makes it with these values, that has no senders yet and has done
-    /// nothing. That the system is the run's, the process the one that the identity names, and the port that of its
-    /// number, is the caller's condition. For want of memory the inbox comes back.
+    /// nothing, and of whose course nothing is kept. That the system is the run's, the process the one that the
+    /// identity names, and the port that of its number, is the caller's condition. For want of memory the inbox comes
+    /// back.
     pub fn new(
         alloc: Global,
         system: &'s System,
@@ -98,6 +105,7 @@ impl<'s, J: Run, P: Inbox + Drop> ThreadInstance<'s, J, P> {
               given = values;
               effects = [];
               children = [];
+              course = record { drawn = None; versions = None };
             })
             (λ back. back ≡ inbox) }
     {
@@ -111,7 +119,15 @@ impl<'s, J: Run, P: Inbox + Drop> ThreadInstance<'s, J, P> {
             outbox: Outbox::new(alloc),
             given: values,
             doings: Doings::new(alloc),
+            course: CourseLog::off(),
         })
+    }
+
+    /// From now on what is noted of its course is kept, as far as there is memory for it.
+    pub fn keep_course(&mut self, alloc: Global)
+        ensures { self.new ≡ record self.old { course = record { drawn = Some []; versions = Some [] } } }
+    {
+        self.course = CourseLog::new(alloc);
     }
 
     /// Makes one step at this time, as `Instance::step` does. What it sends is put at once; where that is refused,
@@ -128,6 +144,7 @@ impl<'s, J: Run, P: Inbox + Drop> ThreadInstance<'s, J, P> {
             Steps result self.old.instance (world_of system time self.old.sent self.old.effects) self.new.instance
             (world_of system time self.new.sent self.new.effects) }
         ensures given { self.new.given ≡ self.old.given }
+        ensures course { self.new.course ≡ self.old.course }
     {
         let own = self.instance.who().pid;
         let outbox = mem::replace(&mut self.outbox, Outbox::new(alloc));
@@ -199,7 +216,8 @@ impl<'s, J: Run, P: Inbox + Drop> ThreadInstance<'s, J, P> {
     }
 
     /// Closes its record, as `Instance::close` does, and gives it with the port of its number and its senders, which have
-    /// put the end of what the record sends; and with the values with which it began, and its children.
+    /// put the end of what the record sends; with the values with which it began, and its children; and with what is kept
+    /// of its course.
     pub fn close(self, whole: bool) -> Left<J, P>
         requires { IsTrue whole → IsAtRest self.instance }
         ensures closed { IsClosed P.shared whole self.entry.instance result.trace }
@@ -209,6 +227,7 @@ impl<'s, J: Run, P: Inbox + Drop> ThreadInstance<'s, J, P> {
         ensures peers { result.peers ≡ self.entry.peers }
         ensures given { result.gifts.given ≡ self.entry.given }
         ensures children { result.gifts.children.items ≡ self.entry.children }
+        ensures course { result.course ≡ self.entry.course }
         ensures last { (d : Definition) → IsRunAs self.entry.instance d
             → ArePeersOf result.trace.pid result.trace.events result.peers }
     {
@@ -217,6 +236,7 @@ impl<'s, J: Run, P: Inbox + Drop> ThreadInstance<'s, J, P> {
             outbox,
             given,
             doings,
+            course,
             ..
         } = self;
         let Closed { trace, inbox } = instance.close(whole);
@@ -228,6 +248,33 @@ impl<'s, J: Run, P: Inbox + Drop> ThreadInstance<'s, J, P> {
                 given,
                 children: doings.into_children(),
             },
+            course,
         }
+    }
+}
+
+impl<'s, 'p, J: Run, R: Wait + Copy> ThreadInstance<'s, J, Held<'p, R>> {
+    /// Notes a step in its course: how many entries are drawn from its port by then, and these versions of the roster,
+    /// which the step has seen or made. They are moved out of the list. That the step is recorded, and is noted once,
+    /// is the caller's condition. Where the port doesn't keep who put its entries, they are counted no more.
+    pub fn note_step(&mut self, versions: &mut KeptWords)
+        ensures drawn { Notes self.old.course.drawn (length self.old.instance.owner.drawn) self.new.course.drawn }
+        ensures seen { NotesAll self.old.course.versions versions.old self.new.course.versions }
+        ensures moved { versions.new ≡ emptied versions.old }
+        ensures rest { self.new ≡ record self.old { course = self.new.course } }
+    {
+        let drawn = self.instance.inbox().drawn();
+        note_count(&mut self.course.drawn, drawn);
+        self.course.versions.note_all(versions);
+    }
+}
+
+/// Notes a count, where it is told. Where it isn't, the counts are kept no more.
+fn note_count(counts: &mut KeptWords, told: Option<u32>)
+    ensures { MatchOption told (counts.new ≡ None) (λ count. Notes counts.old count counts.new) }
+{
+    match told {
+        Some(count) => counts.note(count),
+        None => *counts = KeptWords::off(),
     }
 }

@@ -1,3 +1,4 @@
+mod IntoLemmas
 pub mod Kept
 mod LawLemmas
 mod PlaceLemmas

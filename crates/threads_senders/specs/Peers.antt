@@ -1,5 +1,5 @@
 -- The senders of an instance or of the environment, and what they have put (Z.101: input port).
-use Rattle.std.specs.Prelude.{◌≡◌, ◌==◌, ℕ, Bool, true, false, nat_eq, List, [], ◌∷◌, ◌++◌, All, Option, Some}
+use Rattle.std.specs.Prelude.{◌≡◌, ◌==◌, ℕ, Bool, true, false, nat_eq, List, [], ◌∷◌, ◌++◌, All, map, Option, Some}
 use Rattle.std.specs.Prelude.{if◌then◌else◌, is_some}
 use Rattle.std.specs.declared.alloc.Global.{Global}
 use Rattle.std.specs.Map.{lookup, set_value}
@@ -13,6 +13,7 @@ use Rattle.port_queue.specs.Ends.{SenderState}
 use Rattle.port_values.specs.declared.item.Item.{Item}
 use Rattle.port_values.specs.declared.pid.Pid.{Pid}
 use Rattle.port_values.specs.declared.pid.Pid.TheVariants.{Of}
+use Rattle.run_course.specs.declared.course.SenderInto.{SenderInto}
 use Rattle.threads_senders.specs.Rows.{EndsWith}
 use Rattle.threads_senders.specs.declared.not_put.NotPut.{NotPut}
 use Rattle.threads_senders.specs.declared.not_put.NotPut.TheVariants.{Memory, Unknown}
@@ -32,6 +33,13 @@ sender_to peers number = lookup (nat_eq number) peers
 
 abbrev pub is_known : PeersState → ℕ → Bool
 is_known peers number = is_some (sender_to peers number)
+
+-- into which ports they put, and which number each has there
+abbrev pub sender_into : ℕ × SenderState → SenderInto
+sender_into peer = record { port = peer.0; number = peer.1.number }
+
+abbrev pub senders_into : PeersState → List SenderInto
+senders_into peers = map sender_into peers
 
 -- each sender is of the port of its number
 abbrev pub AreNamed : (ℕ → SegId Global) → PeersState → Type 0

@@ -1,12 +1,12 @@
 //! The senders of an instance, or of the environment.
 
 ghost use Rattle.std.specs.Map.{keys_of};
-ghost use Rattle.std.specs.Prelude.{◌≡◌, ◌==◌, ◌≤◌, ◌++◌, ◌∷◌, [], ℕ, List, None, Some, false, length, slice_get, true, if◌then◌else◌, IfSome, MatchOption, MatchResult, OnOk};
+ghost use Rattle.std.specs.Prelude.{◌≡◌, ◌==◌, ◌≤◌, ◌++◌, ◌∷◌, [], ℕ, List, None, Some, false, length, slice_get, true, if◌then◌else◌, IfOk, IfSome, MatchOption, MatchResult, OnOk};
 ghost use Rattle.port_inbox.specs.Calls.{ComesBack};
 ghost use Rattle.port_inbox.specs.declared.entry.Entry.TheVariants.{Signal, Timer};
 ghost use Rattle.port_values.specs.declared.pid.Pid.{Pid};
 ghost use Rattle.port_values.specs.declared.pid.Pid.TheVariants.{Of};
-ghost use Rattle.threads_senders.specs.Peers.{is_known, put_by, put_to, sender_to, with_signal, GivesBack, PutsTo};
+ghost use Rattle.threads_senders.specs.Peers.{is_known, put_by, put_to, senders_into, sender_to, with_signal, GivesBack, PutsTo};
 ghost use Rattle.threads_senders.specs.Peers.{AreLast, ArePeers, ArePeersOf};
 ghost use Rattle.run_semantics.specs.Sent.{output_of};
 ghost use Rattle.run_semantics.specs.World.{Sent};
@@ -19,7 +19,8 @@ use input_port::{Port, Sender};
 use port_inbox::{Fuse, Refused};
 use port_model::PortError;
 use port_values::{Item, Ticks};
-use std::alloc::{AllocFailed, Global};
+use run_course::SenderInto;
+use std::alloc::{AllocError, AllocFailed, Global};
 use std::marker::{Model, PhantomData};
 use std::sync::Wait;
 
@@ -69,6 +70,23 @@ impl<J: Run> Peers<J> {
             None => 0,
             Some(sender) => sender.sent(),
         }
+    }
+
+    /// Into which ports the senders put, and which number each has there, in the order in which they came.
+    pub fn senders_into(&self, alloc: Global) -> Result<Vec<SenderInto>, AllocError>
+        ensures { IfOk result (λ list. list.items ≡ senders_into self.now) }
+    {
+        let mut list = Vec::with_capacity(alloc, self.senders.len())?;
+        for place in 0..self.senders.len() {
+            let Some((port, sender)) = self.senders.get_index(place) else {
+                unreachable!()
+            };
+            list.push(SenderInto {
+                port: *port,
+                number: sender.number().get(),
+            })?;
+        }
+        Ok(list)
     }
 
     /// Adds a sender into the port of this instance. For lack of memory it comes back. That there was none, that it
