@@ -1,3 +1,4 @@
 pub mod Lookout
 pub mod Making
+pub mod Noting
 pub mod Signs

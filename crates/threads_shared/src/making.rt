@@ -1,13 +1,13 @@
 //! How an instance is made (Z.102: create).
 
-ghost use Rattle.std.specs.Prelude.{◌≡◌, ◌<◌, ◌≤◌, IfNone, IfOk, IfSome, OnErr, Some};
-ghost use Rattle.threads_shared.specs.Making.{IsMade, IsSpent};
+ghost use Rattle.std.specs.Prelude.{◌≡◌, ◌<◌, ◌≤◌, [], IfNone, IfOk, IfSome, None, OnErr, Some};
+ghost use Rattle.threads_shared.specs.Making.{IsMade, IsSpent, LivesSince};
 
 use crate::{Seated, Shared};
-use input_port::Held;
+use input_port::{Held, Owner, Port};
 use port_values::{Pid, Values};
 use run_evaluation::Identity;
-use sdl_instances::Entered;
+use sdl_instances::{Entered, Roster};
 use sdl_system::ProcessId;
 use std::alloc::AllocError;
 use std::sync::Wait;
@@ -16,22 +16,28 @@ use threads_ports::NumberSeat;
 use threads_queue::Ticket;
 use threads_senders::Run;
 
+/// What a create gives: the ticket of the instance, or None; and the version of the roster in which it lives, or in
+/// which there was no room for it. It can't be let go, since a ticket can't.
+pub struct Made {
+    pub ticket: Option<Ticket>,
+    pub version: u64,
+}
+
 /// Makes an instance of a process, with these values of its parameters: at one moment it is entered, lives, and is in its
 /// place before its start, where it has something to do. Its ticket is the answer, and is the caller's to queue. None: as
 /// many live as may, or all numbers are drawn.
 ///
 /// Refused for lack of memory: nobody is entered, and nobody lives who didn't before. The instance is made for the port of
 /// its number, so it is made after the draw. If it finds no memory, the number is spent: nobody gets it.
-#[tactic(auto, using(crate::proofs::CreateLemmas::spent_none))]
 pub fn make<J: Run, R: Wait + Copy>(
     shared: &Shared<'_, '_, '_, J, R>,
     seat: &mut NumberSeat<J>,
     process: ProcessId,
     parent: Pid,
     values: Values,
-) -> Result<Option<Ticket>, AllocError>
-    ensures number { IfOk result (λ made. IfSome made (λ number. IsMade number seat.old.drawn seat.new.drawn)) }
-    ensures none { IfOk result (λ made. IfNone made (IsSpent seat.old.drawn seat.new.drawn)) }
+) -> Result<Made, AllocError>
+    ensures number { IfOk result (λ made. IfSome made.ticket (λ number. IsMade number seat.old.drawn seat.new.drawn)) }
+    ensures none { IfOk result (λ made. IfNone made.ticket (IsSpent seat.old.drawn seat.new.drawn)) }
     ensures refused { OnErr result (IsSpent seat.old.drawn seat.new.drawn) }
     ensures rights { (seat.new.parts ≡ seat.old.parts) × (seat.new.left ≡ seat.old.left) }
 {
@@ -42,17 +48,60 @@ pub fn make<J: Run, R: Wait + Copy>(
     // thread can step in yet, and who has the lock of the owners takes no other: so no two threads wait for each other.
     // Nobody waits for an instance to be made, so nobody is woken.
     let mut roster = shared.tables.roster.lock(shared.rt);
+    make_in(&mut roster, shared, seat, process, parent, values)
+}
+
+/// Makes an instance by this roster. One that is made changes its version.
+#[tactic(auto, using(crate::proofs::CreateLemmas::spent_none))]
+fn make_in<J: Run, R: Wait + Copy>(
+    roster: &mut Roster,
+    shared: &Shared<'_, '_, '_, J, R>,
+    seat: &mut NumberSeat<J>,
+    process: ProcessId,
+    parent: Pid,
+    values: Values,
+) -> Result<Made, AllocError>
+    ensures number { IfOk result (λ made. IfSome made.ticket (λ number. IsMade number seat.old.drawn seat.new.drawn)) }
+    ensures none { IfOk result (λ made. IfNone made.ticket (IsSpent seat.old.drawn seat.new.drawn)) }
+    ensures refused { OnErr result (IsSpent seat.old.drawn seat.new.drawn) }
+    ensures rights { (seat.new.parts ≡ seat.old.parts) × (seat.new.left ≡ seat.old.left) }
+    ensures version { IfOk result (λ made. made.version ≡ roster.new.version) }
+    ensures same { IfOk result (λ made. IfNone made.ticket (roster.new.version ≡ roster.old.version)) }
+    ensures lives { IfOk result (λ made. IfSome made.ticket (λ number.
+        LivesSince roster.old process number roster.new)) }
+{
     if !roster.reserve(process) {
-        return Ok(None);
+        return Ok(nobody(roster));
     }
-    let made = make_reserved(shared, seat, process, parent, values);
-    if let Ok(Some(ticket)) = &made {
-        roster.live(process, ticket.number());
-        shared.tables.signs.note_version(&roster);
-    } else {
-        roster.release(process);
+    match make_reserved(shared, seat, process, parent, values) {
+        Ok(Some(ticket)) => {
+            roster.live(process, ticket.number());
+            shared.tables.signs.note_version(roster);
+            let version = roster.version();
+            Ok(Made {
+                ticket: Some(ticket),
+                version,
+            })
+        }
+        Ok(None) => {
+            roster.release(process);
+            Ok(nobody(roster))
+        }
+        Err(refused) => {
+            roster.release(process);
+            Err(refused)
+        }
     }
-    made
+}
+
+/// Nobody was made, in this version of the roster.
+fn nobody(roster: &Roster) -> Made
+    ensures { result ≡ record { ticket = None; version = roster.now.version } }
+{
+    Made {
+        ticket: None,
+        version: roster.version(),
+    }
 }
 
 /// Makes an instance for which there is a reservation. The caller has the lock of the roster.
@@ -100,14 +149,35 @@ fn instance_of<'s, 'p, J: Run, R: Wait + Copy>(
     let Some(owner) = shared.common.ports.owner(shared.rt, who.pid) else {
         return Ok(None);
     };
-    let inbox = Held::new(*shared.rt, port, owner);
+    let inbox = inbox_of(shared, port, owner);
     let alloc = shared.alloc;
-    let Ok(instance) = ThreadInstance::new(alloc, system, process, who, values, inbox) else {
+    let Ok(mut instance) = ThreadInstance::new(alloc, system, process, who, values, inbox) else {
         return Err(AllocError);
     };
+    if shared.keeps_course {
+        instance.keep_course(alloc);
+    }
     match Box::new(alloc, instance) {
         Ok(seated) => Ok(Some(seated)),
         Err(_) => Err(AllocError),
+    }
+}
+
+/// The port of an instance that is made, as its inbox. Where the course of the run is kept, it keeps who puts each
+/// entry.
+fn inbox_of<'p, J: Run, R: Wait + Copy>(
+    shared: &Shared<'_, '_, 'p, J, R>,
+    port: &'p Port,
+    owner: Owner,
+) -> Held<'p, R>
+    requires port { owner.port ≡ port.now.queue }
+    requires drawn { owner.drawn ≡ [] }
+    ensures { result ≡ record { owner = owner; since = [] } }
+{
+    if shared.keeps_course {
+        Held::keeping(*shared.rt, port, owner)
+    } else {
+        Held::new(*shared.rt, port, owner)
     }
 }
 

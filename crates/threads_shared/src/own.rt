@@ -1,10 +1,16 @@
 //! What a thread of a run has for itself.
 
-ghost use Rattle.std.specs.Prelude.{◌≡◌, [], IfOk, OnOk, replicate, true};
+ghost use Rattle.std.specs.Prelude.{◌≡◌, [], IfOk, OnOk, Some, if◌then◌else◌, length, replicate, true};
+ghost use Rattle.run_course.specs.KeptWords.{Notes};
+ghost use Rattle.sdl_instances.specs.Roster.{least_living};
+ghost use Rattle.threads_shared.specs.Noting.{NotesLookUp};
 
 use crate::{Addressees, Lookout, Shared, Tables};
 use port_inbox::Fuse;
 use port_values::Ticks;
+use run_course::KeptWords;
+use sdl_instances::Roster;
+use sdl_system::Dest;
 use sdl_timers::Reader;
 use std::alloc::{AllocError, Global};
 use std::collections::VecDeque;
@@ -38,6 +44,9 @@ pub struct Own<J: Run> {
     pub living: Vec<Option<u32>>,
     /// That version.
     pub version: u64,
+    /// The versions of the roster that the step that is being made has seen and made, in the order of its events, where
+    /// the course of the run is kept.
+    pub versions: KeptWords,
     /// How many transitions were made that are not in the sum of all, and how many may be at most.
     pub moves: u64,
     pub part: u64,
@@ -53,12 +62,14 @@ impl<J: Run> Own<J> {
         seat: NumberSeat<J>,
         processes: usize,
         part: u64,
+        keeps_course: bool,
     ) -> Result<Self, AllocError>
         ensures passed { IfOk result (λ own. (own.reader ≡ reader) × (own.seat ≡ seat)) }
         ensures hand { IfOk result (λ own. (own.hand.items ≡ []) × (own.jobs ≡ 0)) }
         ensures lookout { IfOk result (λ own. (own.lookout.visits.items ≡ []) × (own.lookout.jobs ≡ 0)) }
         ensures step { IfOk result (λ own. (own.fuses.items ≡ []) × (own.addressees ≡ Addressees.Nobody)) }
         ensures seen { IfOk result (λ own. (own.living.items ≡ replicate processes None) × (own.version ≡ 0)) }
+        ensures versions { IfOk result (λ own. own.versions ≡ (if keeps_course then Some [] else None)) }
         ensures moves { IfOk result (λ own. (own.moves ≡ 0) × (own.part ≡ part)) }
     {
         let mut living = Vec::with_capacity(alloc, processes)?;
@@ -76,6 +87,7 @@ impl<J: Run> Own<J> {
             addressees: Addressees::Nobody,
             living,
             version: 0,
+            versions: words_of(alloc, keeps_course),
             moves: 0,
             part,
         })
@@ -87,6 +99,7 @@ impl<J: Run> Own<J> {
         ensures hand { (self.new.hand ≡ self.old.hand) × (self.new.jobs ≡ self.old.jobs) }
         ensures lookout { self.new.lookout ≡ self.old.lookout }
         ensures step { (self.new.fuses ≡ self.old.fuses) × (self.new.addressees ≡ self.old.addressees) }
+        ensures versions { self.new.versions ≡ self.old.versions }
         ensures moves { (self.new.moves ≡ self.old.moves) × (self.new.part ≡ self.old.part) }
     {
         if tables.signs.version() == self.version {
@@ -96,9 +109,48 @@ impl<J: Run> Own<J> {
         // just the version that is kept, since both are read under its lock. What is changed later is noted later, and
         // looked at then.
         let roster = tables.roster.lock(rt);
+        if self.living.len() != roster.living().len() {
+            return;
+        }
+        self.copy(&roster);
+    }
+
+    /// Copies who lives by a roster, with its version. All else stays. That the roster is of as many processes as this
+    /// thread knows is the caller's condition.
+    fn copy(&mut self, roster: &Roster)
+        requires { length self.old.living.items ≡ length (least_living roster.now.processes) }
+        ensures version { self.new.version ≡ roster.now.version }
+        ensures living { self.new.living.items ≡ least_living roster.now.processes }
+        ensures rest { self.new ≡ record self.old { version = self.new.version; living = self.new.living } }
+    {
         self.version = roster.version();
-        for (mine, theirs) in self.living.iter_mut().zip(roster.living().iter()) {
-            *mine = *theirs;
+        self.living.as_mut_slice().copy_from_slice(roster.living());
+    }
+
+    /// Notes the version by which it has looked up to whom a signal goes. A Pid is its own target. All else depends on who
+    /// lives.
+    pub fn note_look_up(&mut self, to: Dest)
+        ensures noted { NotesLookUp to self.old.version self.old.versions self.new.versions }
+        ensures rest { self.new ≡ record self.old { versions = self.new.versions } }
+    {
+        match to {
+            Dest::Path | Dest::Process(_) => {
+                let version = self.version;
+                self.note_version(version);
+            }
+            Dest::Pid(_) => {}
+        }
+    }
+
+    /// Notes a version of the roster, which the step that is being made has seen or made, where the course of the run
+    /// is kept. After 2^32 changes it is kept no more.
+    pub fn note_version(&mut self, version: u64)
+        ensures noted { Notes self.old.versions version self.new.versions }
+        ensures rest { self.new ≡ record self.old { versions = self.new.versions } }
+    {
+        match u32::try_from(version) {
+            Ok(word) => self.versions.note(word),
+            Err(_) => self.versions = KeptWords::off(),
         }
     }
 
@@ -133,11 +185,23 @@ impl<J: Run> Own<J> {
             addressees: _,
             living: _,
             version: _,
+            versions: _,
             moves: _,
             part: _,
         } = self;
         let mut hand = hand;
         shared.queue_all(&mut hand);
         hand.destroy_empty();
+    }
+}
+
+/// The words that a thread notes, where the course of the run is kept: none so far.
+fn words_of(alloc: Global, keeps_course: bool) -> KeptWords
+    ensures { result ≡ (if keeps_course then Some [] else None) }
+{
+    if keeps_course {
+        KeptWords::new(alloc)
+    } else {
+        KeptWords::off()
     }
 }

@@ -18,8 +18,8 @@ use threads_senders::Run;
 /// An instance in its place.
 pub type Seated<'s, 'p, J, R> = Box<ThreadInstance<'s, J, Held<'p, R>>>;
 
-/// The things that a run lends to its threads: references alone. The type says that the system is the one that the run
-/// names.
+/// The things that a run lends to its threads: references, and whether the run's course is kept, so that the one order
+/// of all can be told. The type says that the system is the one that the run names.
 #[derive(Drop)]
 pub struct Shared<'l, 's, 'p, J: Run, R: Wait + Copy> {
     pub alloc: Global,
@@ -28,6 +28,7 @@ pub struct Shared<'l, 's, 'p, J: Run, R: Wait + Copy> {
     pub common: &'p Common<J>,
     pub tables: &'l Tables,
     pub places: &'l Places<Seated<'s, 'p, J, R>>,
+    pub keeps_course: bool,
     ghost system_is: { J.system ≡ Some system.now } by { Prim.hlevel (codes, expression.the_row.coded) },
 }
 

@@ -1,6 +1,7 @@
 //! What an instance's step asks of the run.
 
-use crate::{Own, Shared, making};
+use crate::making::{self, Made};
+use crate::{Own, Shared};
 use input_port::{Port, Sender};
 use port_inbox::Fuse;
 use port_values::{Pid, SignalId, Values};
@@ -24,7 +25,8 @@ impl<'w, 'l, 's, 'p, J: Run, R: Wait + Copy> Runtime<J> for StepRuntime<'w, 'l, 
 
     ghost kept = { λ o. o.own.now.fuses.items };
 
-    /// Whom a signal reaches is noted, since it is asked for just before each signal is sent.
+    /// Whom a signal reaches is noted, since it is asked for just before each signal is sent. So is the version of the
+    /// roster by which it was looked up.
     fn route(&mut self, system: &System, signal: SignalId, from: ProcessId, to: Dest) -> Target {
         self.own.look(self.shared.rt, self.shared.tables);
         let target = system.route(
@@ -33,6 +35,7 @@ impl<'w, 'l, 's, 'p, J: Run, R: Wait + Copy> Runtime<J> for StepRuntime<'w, 'l, 
             to,
             self.own.living.as_slice(),
         );
+        self.own.note_look_up(to);
         if let Target::Instance(number) = target {
             self.own.addressees = self.own.addressees.and(number);
         }
@@ -72,7 +75,10 @@ impl<'w, 'l, 's, 'p, J: Run, R: Wait + Copy> Runtime<J> for StepRuntime<'w, 'l, 
     ) -> Result<Option<u32>, AllocError> {
         self.own.hand.reserve(1)?;
         let seat = &mut self.own.seat;
-        let Some(ticket) = making::make(self.shared, seat, process, Pid::Of(parent), values)? else {
+        let made = making::make(self.shared, seat, process, Pid::Of(parent), values)?;
+        let Made { ticket, version } = made;
+        self.own.note_version(version);
+        let Some(ticket) = ticket else {
             return Ok(None);
         };
         let number = ticket.number();

@@ -1,6 +1,8 @@
 //! The tables of a run.
 
-ghost use Rattle.std.specs.Prelude.{◌≡◌, IfOk, is_some, nat_lt, vec_len};
+ghost use Rattle.sdl_instances.specs.Instances.{without_one};
+ghost use Rattle.sdl_instances.specs.Roster.{lives_in, turned_in};
+ghost use Rattle.std.specs.Prelude.{◌≡◌, IfOk, if◌then◌else◌, is_some, nat_lt, vec_len};
 ghost use Rattle.threads_shared.specs.Signs.{limit_of, workers_of};
 
 use crate::Signs;
@@ -70,13 +72,14 @@ impl Tables {
         locals.destroy_empty();
     }
 
-    /// An instance of the process lives no more.
-    pub fn end<R: Wait>(&self, rt: &R, process: ProcessId, number: u32) {
+    /// An instance of the process lives no more. Answers the version of the roster since.
+    pub fn end<R: Wait>(&self, rt: &R, process: ProcessId, number: u32) -> u64 {
         // Before: the instance lives, by the roster. After: it doesn't, and the next version is noted: both in one section,
         // so each version of the roster is that of one change. Nobody waits for it, so nobody is woken.
         let mut roster = self.roster.lock(rt);
-        roster.end(process, number);
+        let version = end_in(&mut roster, process, number);
         self.signs.note_version(&roster);
+        version
     }
 
     /// Queues a ticket in the hall. The answer is a worker that sleeps, which is to be unparked. Refused for lack of
@@ -163,4 +166,14 @@ fn locals_of(alloc: Global, workers: usize) -> Result<Vec<CachePadded<LocalQueue
         locals.push_reserved(CachePadded::new(LocalQueue::new(alloc)));
     }
     Ok(locals)
+}
+
+/// An instance of the process lives no more, by this roster. Answers its version since.
+fn end_in(roster: &mut Roster, process: ProcessId, number: u32) -> u64
+    ensures after { roster.new ≡ (if lives_in roster.old.processes process number
+        then turned_in (without_one number) roster.old process else roster.old) }
+    ensures version { result ≡ roster.new.version }
+{
+    roster.end(process, number);
+    roster.version()
 }
