@@ -4,6 +4,7 @@ use Rattle.std.specs.declared.alloc.Global.{Global}
 use Rattle.crossbeam_queue.specs.SegTies.{SegId}
 use Rattle.port_inbox.specs.Ends.{OwnerState}
 use Rattle.port_values.specs.declared.value.Value.{Value}
+use Rattle.run_course.specs.declared.course_log.CourseLog.{CourseLog}
 use Rattle.run_record.specs.Event.{Event, is_beginning}
 use Rattle.run_record.specs.Record.{RecordValue}
 use Rattle.run_semantics.specs.ControlPoint.{Definition}
@@ -39,7 +40,7 @@ pub record IsLeftOfOne (named : Option SystemValue) (ports : ℕ → SegId Globa
   pub left : IsLeft named ports whole instance trace owner peers given children
 
 -- what a caller sees of it: whether the run is whole, the record, the owner of the port, the senders, the values with
--- which it began, and its children
+-- which it began, its children, and what is kept of its course
 pub record ClosingState : Type 0 where
   pub whole : Bool
   pub trace : RecordValue
@@ -47,6 +48,7 @@ pub record ClosingState : Type 0 where
   pub peers : PeersState
   pub given : List Value
   pub children : List Child
+  pub course : CourseLog
 
 -- some events more were recorded, or none, and no transition begins with one of them
 pub record HasNoMore (old new : List Event) : Type 0 where

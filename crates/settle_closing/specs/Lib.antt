@@ -1,4 +1,5 @@
 pub mod ClosingLaws
 pub mod History
 pub mod Left
+pub mod Noted
 pub mod PortThen

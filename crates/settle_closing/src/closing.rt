@@ -6,15 +6,16 @@ ghost use Rattle.settle_closing.specs.PortThen.{then_of};
 
 use crate::PortThen;
 use input_port::Held;
+use run_course::CourseLog;
 use run_record::Record;
 use std::marker::Model;
 use std::sync::Wait;
 use threads_instance::{Gifts, Left};
 use threads_senders::{Peers, Run};
 
-/// A closed instance: its record, its port, its senders, and what it was given and gave. The type keeps that the record is a
-/// run of the instance's process, which began with the values that it was given and created the children to which it gave
-/// theirs, that in a `whole` run the instance was at rest, and what the senders have put.
+/// A closed instance: its record, its port, its senders, what it was given and gave, and what is kept of its course. The
+/// type keeps that the record is a run of the instance's process, which began with the values that it was given and created
+/// the children to which it gave theirs, that in a `whole` run the instance was at rest, and what the senders have put.
 #[derive(Drop)]
 pub struct Closing<'p, J: Run, R: Wait + Copy> {
     whole: bool,
@@ -22,6 +23,7 @@ pub struct Closing<'p, J: Run, R: Wait + Copy> {
     inbox: Held<'p, R>,
     peers: Peers<J>,
     gifts: Gifts,
+    course: CourseLog,
 }
 
 impl<'p, J: Run, R: Wait + Copy> Model for Closing<'p, J, R> {
@@ -36,6 +38,7 @@ impl<'p, J: Run, R: Wait + Copy> Model for Closing<'p, J, R> {
       peers = c.peers;
       given = c.gifts.given;
       children = c.gifts.children.items;
+      course = c.course;
     } };
 
     ghost invariant = { λ c. IsLeftOfOne J.system J.ports c.whole c.trace c.inbox.owner c.peers c.gifts.given
@@ -54,6 +57,7 @@ impl<'p, J: Run, R: Wait + Copy> Closing<'p, J, R> {
           peers = left.entry.peers;
           given = left.entry.gifts.given;
           children = left.entry.gifts.children.items;
+          course = left.entry.course;
         } }
     {
         let Left {
@@ -61,6 +65,7 @@ impl<'p, J: Run, R: Wait + Copy> Closing<'p, J, R> {
             inbox,
             peers,
             gifts,
+            course,
         } = left;
         Closing {
             whole,
@@ -68,6 +73,7 @@ impl<'p, J: Run, R: Wait + Copy> Closing<'p, J, R> {
             inbox,
             peers,
             gifts,
+            course,
         }
     }
 
@@ -110,12 +116,14 @@ impl<'p, J: Run, R: Wait + Copy> Closing<'p, J, R> {
         ensures peers { result.peers ≡ self.entry.peers }
         ensures given { result.gifts.given ≡ self.entry.given }
         ensures children { result.gifts.children.items ≡ self.entry.children }
+        ensures course { result.course ≡ self.entry.course }
     {
         let Closing {
             trace,
             inbox,
             peers,
             gifts,
+            course,
             ..
         } = self;
         Left {
@@ -123,6 +131,7 @@ impl<'p, J: Run, R: Wait + Copy> Closing<'p, J, R> {
             inbox,
             peers,
             gifts,
+            course,
         }
     }
 }

@@ -1,6 +1,7 @@
 //! A port that was counted.
 
-ghost use Rattle.std.specs.Prelude.{◌≡◌};
+ghost use Rattle.std.specs.Prelude.{◌≡◌, IfSome};
+ghost use Rattle.port_queue.specs.Kept.{senders_of};
 ghost use Rattle.settle_gathering.specs.Gathering.{IsCounted};
 
 use crate::Fixed;
@@ -64,6 +65,14 @@ impl<'a, J: Run, K: Fixed, R: Wait + Copy> Counted<'a, J, K, R> {
         ensures { result.now.owner ≡ self.now.owner }
     {
         &self.inbox
+    }
+
+    /// Of each entry that was drawn the number of its sender, in the order in which they were drawn. None: the numbers
+    /// aren't kept.
+    pub fn into_puts(self) -> Option<Vec<u32>>
+        ensures { IfSome result (λ puts. puts.items ≡ senders_of self.entry.owner.drawn) }
+    {
+        self.inbox.into_puts()
     }
 
     /// That it was counted, as a fact.

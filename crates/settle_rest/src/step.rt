@@ -1,21 +1,22 @@
 //! A step of an instance that is in its place.
 
-ghost use Rattle.std.specs.Prelude.{◌≡◌, ◌⊎◌, ◌+◌, ◌<◌, ◌≤◌, ℕ, Contains, IfOk, OnOk, length};
+ghost use Rattle.std.specs.Prelude.{◌≡◌, ◌⊎◌, ◌+◌, ◌<◌, ◌≤◌, ℕ, Contains, IfOk, IsTrue, OnOk, false, length};
 ghost use Rattle.serial_sweeps.specs.Sweeps.{IsNoFuseBefore};
 ghost use Rattle.serial_sweeps.specs.declared.instance_set.Made.TheVariants.{Transition};
+ghost use Rattle.settle_rest.specs.Noted.{HasNotedAs};
 ghost use Rattle.settle_rest.specs.Woken.{AreNumbers};
+ghost use Rattle.threads_shared.specs.Noting.{HasNoted};
 
 use crate::instances::Rest;
 use crate::waking::{arm_all, wake, wake_all};
 use port_values::Ticks;
-use run_evaluation::Identity;
 use run_record::RunError;
 use sdl_interp::Stepped;
 use serial_sweeps::{Agenda, Made};
 use std::alloc::AllocError;
 use std::sync::Wait;
 use threads_senders::Run;
-use threads_shared::{Own, Seated, Shared, StepRuntime};
+use threads_shared::{Own, Seated, Shared, StepRuntime, note_stepped};
 
 impl<'w, 'l, 's, 'p, 'e, J: Run, R: Wait + Copy> Rest<'w, 'l, 's, 'p, 'e, J, R> {
     /// One step of the instance that is in the place of this number, and all that comes after it. If none is there, nobody
@@ -46,7 +47,7 @@ impl<'w, 'l, 's, 'p, 'e, J: Run, R: Wait + Copy> Rest<'w, 'l, 's, 'p, 'e, J, R> 
     }
 
     /// One step of an instance: its fuses wait, whom it has sent something or created is woken, and who has ended lives no
-    /// more.
+    /// more. Where the course of the run is kept, the step is noted there.
     fn step_of(
         &mut self,
         agenda: &mut Agenda,
@@ -62,9 +63,12 @@ impl<'w, 'l, 's, 'p, 'e, J: Run, R: Wait + Copy> Rest<'w, 'l, 's, 'p, 'e, J, R> 
         ensures fewer { IfOk result (λ made. (made ≡ Transition) ⊎ (length agenda.new.ready < length agenda.old.ready)) }
         ensures environment { self.new.environment ≡ self.old.environment }
         ensures given { self.old.given ≤ self.new.given }
+        ensures off { self.old.shared.now.keeps_course ≡ false → seated.new.value.course ≡ seated.old.value.course }
+        ensures noted { IsTrue self.old.shared.now.keeps_course
+            → IfOk result (λ made. HasNotedAs made seated.old.value seated.new.value) }
     {
         let told = seated.trace().len();
-        let stepped = step(self.shared, self.own, seated, agenda.clock);
+        let stepped = self.step_noted(seated, agenda.clock);
         arm_all(agenda, &mut self.own.fuses)?;
         match stepped {
             Stepped::Idle => {
@@ -74,7 +78,6 @@ impl<'w, 'l, 's, 'p, 'e, J: Run, R: Wait + Copy> Rest<'w, 'l, 's, 'p, 'e, J, R> 
             Stepped::Moved => {}
             Stepped::Ended { counts } => {
                 agenda.ready.rest(number);
-                self.end(seated.who());
                 if !counts {
                     return Ok(Made::Failure);
                 }
@@ -85,12 +88,19 @@ impl<'w, 'l, 's, 'p, 'e, J: Run, R: Wait + Copy> Rest<'w, 'l, 's, 'p, 'e, J, R> 
         Ok(Made::Transition)
     }
 
-    /// An instance has ended, and lives no more.
-    fn end(&mut self, who: Identity)
-        ensures { self.new ≡ self.old }
+    /// One step of an instance at this time. If it is recorded, it is noted where the course of the run is kept. The fuses
+    /// of its timers and the tickets of whom it has created are in this thread's hand then, and who has ended lives no more.
+    fn step_noted(&mut self, seated: &mut Seated<'s, 'p, J, R>, time: Ticks) -> Stepped
+        ensures off { self.old.shared.now.keeps_course ≡ false → seated.new.value.course ≡ seated.old.value.course }
+        ensures noted { IsTrue self.old.shared.now.keeps_course
+            → HasNoted result seated.old.value seated.new.value }
+        ensures environment { self.new.environment ≡ self.old.environment }
+        ensures given { self.new.given ≡ self.old.given }
     {
-        let shared = self.shared;
-        shared.tables.end(shared.rt, who.process, who.pid);
+        let told = seated.trace().len();
+        let stepped = step(self.shared, self.own, seated, time);
+        note_stepped(self.shared, self.own, seated, stepped, told);
+        stepped
     }
 
     /// Whom a step has created has a number now, and has its start to make.
@@ -120,7 +130,9 @@ fn step<'s, 'p, J: Run, R: Wait + Copy>(
     own: &mut Own<J>,
     seated: &mut Seated<'s, 'p, J, R>,
     time: Ticks,
-) -> Stepped {
+) -> Stepped
+    ensures { seated.new.value.course ≡ seated.old.value.course }
+{
     let mut runtime = StepRuntime { shared, own };
     seated.step(shared.alloc, shared.rt, &mut runtime, time)
 }

@@ -9,6 +9,7 @@ use Rattle.std.proofs.Crossing as owners
 use Rattle.input_port.proofs.held.Held.TheSendSync as held
 use Rattle.port_inbox.specs.declared.inbox.Inbox as inbox
 use Rattle.port_values.proofs.values.Values.TheSendSync as some-values
+use Rattle.run_course.proofs.course_log.CourseLog.TheSendSync as a-course-log
 use Rattle.run_transitions.proofs.machine.Machine.TheSendSync as a-machine
 use Rattle.run_transitions.proofs.machine.Position.TheSendSync as a-position
 use Rattle.run_transitions.specs.contracts.running.Core as Core
@@ -44,7 +45,10 @@ module _ (κ : NamedLft) (P : RattleType) (g : inbox.Ghosts P.Denot) where
         search (instance, sendable),
         (
           search (an-outbox.the_send, sendable),
-          (search (some-values.the_send, sendable), (search (some-doings.the_send, sendable), tt)),
+          (
+            search (some-values.the_send, sendable),
+            (search (some-doings.the_send, sendable), (search (a-course-log.the_send, sendable), tt)),
+          ),
         ),
       ),
     )
@@ -68,7 +72,7 @@ module _ (l s p : NamedLft) (J R : RattleType) (j : run.Ghosts J.Denot) (w : wai
             search (some-tables.the_sync, sendable),
             (
               search (some-places.the_sync, thread_instance, held.the_send, sendable, owners.crosses) depth 20,
-              tt,
+              (search sendable, tt),
             ),
           ),
         ),

@@ -6,7 +6,8 @@ use std::alloc::AllocError;
 use std::sync::Wait;
 use threads_ports::NumberSeat;
 use threads_senders::Run;
-use threads_shared::{Shared, making};
+use threads_shared::Shared;
+use threads_shared::making::{self, Made};
 
 /// Makes the instances with which the system begins, in the order of the text, and queues them. Refused for lack of
 /// memory.
@@ -32,7 +33,8 @@ fn begin_all<J: Run, R: Wait + Copy>(
 ) -> Result<(), AllocError> {
     for _ in 0..process.initial {
         let none = Values::none(shared.alloc);
-        let Some(ticket) = making::make(shared, seat, id, Pid::Null, none)? else {
+        let Made { ticket, version: _ } = making::make(shared, seat, id, Pid::Null, none)?;
+        let Some(ticket) = ticket else {
             return Err(AllocError);
         };
         // No worker sleeps yet, so nobody is to be unparked.

@@ -40,7 +40,7 @@ idle_rests old new w v keeps idle = λ d is_run.
 
 pub has_stepped : (made : Stepped) (old new : InstanceValue) (w v : WorldValue) → Keeps old new
     → Steps made old w new v → HasStepped made new
-has_stepped stepped.Moved old new w v keeps steps = tt
+has_stepped stepped.Moved old new w v keeps steps = steps.1
 has_stepped stepped.Idle old new w v keeps steps = idle_rests old new w v keeps steps
 has_stepped (stepped.Ended counts) old new w v keeps (inl was) =
     ap (λ (i : InstanceValue). i.position) was.1 ∙ was.0

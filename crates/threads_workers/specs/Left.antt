@@ -1,5 +1,5 @@
 -- What a job or a step of it leaves: an instance that rests, one that has ended, or one that may have more to do.
-use Rattle.std.specs.Prelude.{◌≡◌}
+use Rattle.std.specs.Prelude.{◌≡◌, ◌≢◌}
 use Rattle.run_transitions.specs.declared.machine.Position.TheVariants as at
 use Rattle.sdl_interp.specs.Instance.{InstanceValue, IsAtRest}
 use Rattle.sdl_interp.specs.declared.instance.Stepped.{Stepped}
@@ -14,8 +14,8 @@ IsLeft left.Ended i = i.position ≡ at.Ended
 IsLeft left.Signals i = Unit {0}
 IsLeft left.More i = Unit {0}
 
--- the same of a step
+-- the same of a step: who has moved has not ended
 abbrev pub HasStepped : Stepped → InstanceValue → Type 0
-HasStepped stepped.Moved i = Unit {0}
+HasStepped stepped.Moved i = i.position ≢ at.Ended
 HasStepped stepped.Idle i = IsAtRest i
 HasStepped (stepped.Ended counts) i = i.position ≡ at.Ended

@@ -1,6 +1,7 @@
 //! A job of a worker: some steps of one instance.
 
-ghost use Rattle.std.specs.Prelude.{IfOk, IfSome};
+ghost use Rattle.std.specs.Prelude.{◌≡◌, IfOk, IfSome, IsTrue, OnOk, false};
+ghost use Rattle.threads_shared.specs.Noting.{HasNoted};
 ghost use Rattle.threads_workers.specs.Left.{HasStepped, IsLeft};
 
 use crate::Gate;
@@ -10,7 +11,7 @@ use std::alloc::AllocError;
 use std::sync::Wait;
 use threads_queue::{LocalQueue, MOST_TAKEN, Ticket};
 use threads_senders::Run;
-use threads_shared::{Addressees, Own, Seated, Shared, StepRuntime};
+use threads_shared::{Addressees, Own, Seated, Shared, StepRuntime, note_stepped};
 
 /// How many steps a turn has at most, so that all that have something to do get theirs: the others of a worker's local
 /// queue after it, and those in the hall when the worker looks there, after so many jobs. The fewer, the sooner others find
@@ -198,14 +199,17 @@ fn is_to_share<J: Run, R: Wait + Copy>(
 }
 
 /// One step of an instance, with all that comes after it: its fuses go into the wheel, whom it has sent something is woken,
-/// and who has ended lives no more.
+/// and who has ended lives no more. Where the course of the run is kept, the step is noted there.
 #[tactic(auto, using(crate::proofs::Stepping::has_stepped))]
 pub fn step<'s, 'p, J: Run, R: Wait + Copy>(
     shared: &Shared<'_, 's, 'p, J, R>,
     own: &mut Own<J>,
     seated: &mut Seated<'s, 'p, J, R>,
 ) -> Result<Stepped, AllocError>
-    ensures { IfOk result (λ stepped. HasStepped stepped seated.new.value.instance) }
+    ensures left { IfOk result (λ stepped. HasStepped stepped seated.new.value.instance) }
+    ensures off { shared.now.keeps_course ≡ false → OnOk result (seated.new.value.course ≡ seated.old.value.course) }
+    ensures noted { IsTrue shared.now.keeps_course
+        → IfOk result (λ stepped. HasNoted stepped seated.old.value seated.new.value) }
 {
     let told = seated.trace().len();
     let time = own.reader.now();
@@ -214,21 +218,24 @@ pub fn step<'s, 'p, J: Run, R: Wait + Copy>(
     let stepped = seated.step(shared.alloc, shared.rt, &mut runtime, time);
     own.arm(shared.rt, shared.tables)?;
     wake_addressees(shared, own, seated.trace(), told)?;
-    match stepped {
-        Stepped::Moved => count(shared, own),
-        Stepped::Idle => {}
-        Stepped::Ended { counts } => {
-            let who = seated.who();
-            shared.tables.end(shared.rt, who.process, who.pid);
-            if counts {
-                count(shared, own);
-            }
-        }
-    }
+    note_stepped(shared, own, seated, stepped, told);
+    count_step(shared, own, stepped);
     Ok(stepped)
 }
 
-/// Notes a transition. Once the sum of all is the limit, the run is over: each thread sees that at its next look.
+/// Counts the transition that a step has made, if it has made one.
+fn count_step<J: Run, R: Wait + Copy>(
+    shared: &Shared<'_, '_, '_, J, R>,
+    own: &mut Own<J>,
+    stepped: Stepped,
+) {
+    match stepped {
+        Stepped::Moved | Stepped::Ended { counts: true } => count(shared, own),
+        Stepped::Idle | Stepped::Ended { counts: false } => {}
+    }
+}
+
+/// Counts a transition. Once the sum of all is the limit, the run is over: each thread sees that at its next look.
 fn count<J: Run, R: Wait + Copy>(shared: &Shared<'_, '_, '_, J, R>, own: &mut Own<J>) {
     own.moves = own.moves.saturating_add(1);
     if own.moves >= own.part {

@@ -45,7 +45,8 @@ fn rounds<J: Run, R: Wait + Copy, G: Gate>(
     };
     let processes = shared.system.processes().len();
     let part = shared.tables.signs.part(crew.workers.len());
-    let mut own = Own::new(shared.alloc, reader, seat, processes, part)?;
+    let keeps_course = shared.keeps_course;
+    let mut own = Own::new(shared.alloc, reader, seat, processes, part, keeps_course)?;
     let worked = rounds_of(shared, crew, gate, me, parker, &mut own, local);
     own.end_with(shared);
     worked
