@@ -1,17 +1,18 @@
 //! A run under its name.
 
-ghost use Rattle.std.specs.Prelude.{◌≡◌, All, IfOk, Some, vec_len};
+ghost use Rattle.std.specs.Prelude.{◌≡◌, All, IfOk, IfSome, Some, length, vec_len};
 ghost use Rattle.settle_meaning.specs.Settled.{IsSettledReport};
+ghost use Rattle.settle_run.specs.Course.{HasRows};
 ghost use Rattle.threads_environment.specs.Environment.{IsOfEnv};
 ghost use Rattle.threads_ports.specs.Named.{AreMade, AreNamed};
 
 use crate::watch::{Stage, Watch};
-use run_record::{Report, RunError};
+use run_record::RunError;
 use sdl_instances::{Entries, Seat, Table};
 use sdl_script::ScriptLine;
 use sdl_system::System;
 use sdl_timers::{NewClock, Reader, clock};
-use settle_run::settle;
+use settle_run::{Settled, settle};
 use std::alloc::Global;
 use std::sync::Wait;
 use std::thread::Threads;
@@ -23,13 +24,15 @@ use threads_senders::Run;
 use threads_shared::{Common, Own, Shared, Tables};
 use threads_workers::{Director, Gate};
 
-/// The plan of a run: the lines of its script, how many workers it has, and its limit of transitions.
+/// The plan of a run: the lines of its script, how many workers it has, its limit of transitions, and whether its
+/// course is kept, so that the order of all can be told.
 #[derive(Clone, Copy, Drop)]
 pub struct Plan<'a> {
     pub alloc: Global,
     pub lines: &'a [ScriptLine],
     pub workers: usize,
     pub limit: u64,
+    pub keeps_course: bool,
 }
 
 /// A run under the name `J`: its system, ports and table are those that the name says.
@@ -45,7 +48,7 @@ pub fn run_named<
     table: Table,
     seat: Seat,
     gate: &G,
-) -> Result<Report, RunError>
+) -> Result<Settled, RunError>
     requires system { J.system ≡ Some system.now }
     requires all { vec_len made.rows ≡ 1000 }
     requires ports { AreNamed J.ports made.rows.items }
@@ -53,8 +56,10 @@ pub fn run_named<
     requires table { table.id ≡ J.table }
     requires seat { seat.table ≡ J.table }
     requires lines { All IsOfEnv plan.lines.now }
-    ensures settled { IfOk result (λ report.
-        IsSettledReport system.now plan.entry.lines.now plan.entry.limit report) }
+    ensures settled { IfOk result (λ settled.
+        IsSettledReport system.now plan.entry.lines.now plan.entry.limit settled.report) }
+    ensures rows { IfOk result (λ settled.
+        IfSome settled.course (HasRows (length settled.report.records.items))) }
 {
     let common: Common<J> = Common {
         ports: Ports::new(made),
@@ -72,30 +77,29 @@ fn run_common<J: Run + Send + Sync, R: Threads + Wait + Copy + Send + Sync, G: G
     common: &Common<J>,
     seat: NumberSeat<J>,
     gate: &G,
-) -> Result<Report, RunError>
+) -> Result<Settled, RunError>
     requires system { J.system ≡ Some system.now }
     requires lines { All IsOfEnv plan.lines.now }
-    ensures settled { IfOk result (λ report.
-        IsSettledReport system.now plan.entry.lines.now plan.entry.limit report) }
+    ensures settled { IfOk result (λ settled.
+        IsSettledReport system.now plan.entry.lines.now plan.entry.limit settled.report) }
+    ensures rows { IfOk result (λ settled.
+        IfSome settled.course (HasRows (length settled.report.records.items))) }
 {
     let alloc = plan.alloc;
     let mut places = Places::new(alloc)?;
     let tables = Tables::new(alloc, system, plan.workers, plan.limit)?;
-    let report = run_shared(
-        &Shared {
-            alloc,
-            rt,
-            system,
-            common,
-            tables: &tables,
-            places: &places,
-        },
-        plan,
-        seat,
-        gate,
-    );
+    let shared = Shared {
+        alloc,
+        rt,
+        system,
+        common,
+        tables: &tables,
+        places: &places,
+        keeps_course: plan.keeps_course,
+    };
+    let settled = run_shared(&shared, plan, seat, gate);
     tables.end_with(&mut places);
-    report
+    settled
 }
 
 /// A run over all that its threads share: they work, are joined, and the run is settled.
@@ -104,10 +108,12 @@ fn run_shared<J: Run + Send + Sync, R: Threads + Wait + Copy + Send + Sync, G: G
     plan: Plan<'_>,
     seat: NumberSeat<J>,
     gate: &G,
-) -> Result<Report, RunError>
+) -> Result<Settled, RunError>
     requires { All IsOfEnv plan.lines.now }
-    ensures settled { IfOk result (λ report.
-        IsSettledReport shared.now.system.now plan.entry.lines.now plan.entry.limit report) }
+    ensures settled { IfOk result (λ settled.
+        IsSettledReport shared.now.system.now plan.entry.lines.now plan.entry.limit settled.report) }
+    ensures rows { IfOk result (λ settled.
+        IfSome settled.course (HasRows (length settled.report.records.items))) }
 {
     let mut seat = seat;
     let NewClock { ticker, mut reader } = clock(plan.alloc)?;
@@ -116,9 +122,9 @@ fn run_shared<J: Run + Send + Sync, R: Threads + Wait + Copy + Send + Sync, G: G
     let director = Director::new(environment, ticker);
     let director = direct(shared, director, &mut reader, &mut seat, plan.workers, gate)?;
     gate.reached(Stage::Joined);
-    let report = settle_joined(shared, plan, reader, seat, director)?;
+    let settled = settle_joined(shared, plan, reader, seat, director)?;
     gate.reached(Stage::Settled);
-    Ok(report)
+    Ok(settled)
 }
 
 /// Settles a run whose threads are all joined, unless one of them found no memory for the run's own tables.
@@ -128,10 +134,12 @@ fn settle_joined<J: Run, R: Threads + Wait + Copy + Sync>(
     reader: Reader,
     seat: NumberSeat<J>,
     director: Director<'_, J>,
-) -> Result<Report, RunError>
+) -> Result<Settled, RunError>
     requires { director.environment.lines ≡ plan.lines.now }
-    ensures settled { IfOk result (λ report.
-        IsSettledReport shared.now.system.now plan.entry.lines.now plan.entry.limit report) }
+    ensures settled { IfOk result (λ settled.
+        IsSettledReport shared.now.system.now plan.entry.lines.now plan.entry.limit settled.report) }
+    ensures rows { IfOk result (λ settled.
+        IfSome settled.course (HasRows (length settled.report.records.items))) }
 {
     if shared.tables.signs.has_failed() {
         return Err(RunError::Memory);
@@ -142,8 +150,8 @@ fn settle_joined<J: Run, R: Threads + Wait + Copy + Sync>(
         ..
     } = director;
     let processes = shared.system.processes().len();
-    let mut own = Own::new(plan.alloc, reader, seat, processes, 1)?;
-    let report = settle(
+    let mut own = Own::new(plan.alloc, reader, seat, processes, 1, plan.keeps_course)?;
+    let settled = settle(
         shared,
         &mut own,
         environment,
@@ -152,5 +160,5 @@ fn settle_joined<J: Run, R: Threads + Wait + Copy + Sync>(
         plan.workers,
     );
     own.end_with(shared);
-    report
+    settled
 }

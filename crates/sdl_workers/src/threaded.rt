@@ -1,9 +1,11 @@
 //! A run on several threads.
 
-ghost use Rattle.std.specs.Prelude.{All, IfOk};
+ghost use Rattle.std.specs.Prelude.{All, IfOk, IfSome, length};
 ghost use Rattle.sdl_script.specs.Script.{SendsFromEnv};
 ghost use Rattle.settle_meaning.specs.Headline.{IsHeadline};
 ghost use Rattle.settle_meaning.specs.Settled.{IsSettledReport};
+ghost use Rattle.settle_run.specs.Course.{HasRows};
+ghost use Rattle.threads_environment.specs.Environment.{IsOfEnv};
 
 use crate::naming::{Plan, run_named};
 use crate::stack::touch_stack;
@@ -13,6 +15,7 @@ use sdl_instances::birth;
 use sdl_script::Script;
 use sdl_system::System;
 use settle_meaning::laws::settled_reports_have_headline;
+use settle_run::Settled;
 use std::alloc::Global;
 use std::marker::Brand;
 use std::sync::Wait;
@@ -50,16 +53,64 @@ pub fn run<R: Threads + Wait + Copy + Send + Sync, G: Gate + Watch + Sync>(
     ensures settled { IfOk result (λ report.
         IsSettledReport system.now script.now.lines.items limit report) }
 {
-    touch_stack(alloc, workers)?;
-    let made = ports::ports(rt, alloc, workers.max(1))?;
-    let (table, seat) = birth::table(alloc)?;
     let plan = Plan {
         alloc,
         lines: script.lines.as_slice(),
         workers,
         limit,
+        keeps_course: false,
     };
     settled_reports_have_headline();
-    let report = run_named::<Brand, R, G>(rt, system, plan, made, table, seat, gate)?;
-    Ok(report)
+    let settled = run_plan(rt, system, plan, gate)?;
+    Ok(settled.report)
+}
+
+/// `run`, which keeps its course beside the report, so that the one order of all can be told. It takes some bytes for
+/// each event. Without a course there was no memory for all of it. The report is there all the same.
+#[tactic(auto, using(crate::proofs::Sending::lines_of_env))]
+pub fn run_with_course<R: Threads + Wait + Copy + Send + Sync, G: Gate + Watch + Sync>(
+    rt: &R,
+    alloc: Global,
+    system: &System,
+    script: &Script,
+    workers: usize,
+    limit: u64,
+    gate: &G,
+) -> Result<Settled, RunError>
+    requires { All (SendsFromEnv system.now) script.now.lines.items }
+    ensures headline { IfOk result (λ settled. IsHeadline system.now settled.report) }
+    ensures settled { IfOk result (λ settled.
+        IsSettledReport system.now script.now.lines.items limit settled.report) }
+    ensures rows { IfOk result (λ settled.
+        IfSome settled.course (HasRows (length settled.report.records.items))) }
+{
+    let plan = Plan {
+        alloc,
+        lines: script.lines.as_slice(),
+        workers,
+        limit,
+        keeps_course: true,
+    };
+    settled_reports_have_headline();
+    let settled = run_plan(rt, system, plan, gate)?;
+    Ok(settled)
+}
+
+/// A run by its plan.
+fn run_plan<R: Threads + Wait + Copy + Send + Sync, G: Gate + Watch + Sync>(
+    rt: &R,
+    system: &System,
+    plan: Plan<'_>,
+    gate: &G,
+) -> Result<Settled, RunError>
+    requires { All IsOfEnv plan.lines.now }
+    ensures settled { IfOk result (λ settled.
+        IsSettledReport system.now plan.entry.lines.now plan.entry.limit settled.report) }
+    ensures rows { IfOk result (λ settled.
+        IfSome settled.course (HasRows (length settled.report.records.items))) }
+{
+    touch_stack(plan.alloc, plan.workers)?;
+    let made = ports::ports(rt, plan.alloc, plan.workers.max(1))?;
+    let (table, seat) = birth::table(plan.alloc)?;
+    run_named::<Brand, R, G>(rt, system, plan, made, table, seat, gate)
 }

@@ -1,3 +1,4 @@
+mod CourseLemmas
 mod GiftLemmas
 mod PartLemmas
 mod PortLemmas

@@ -8,15 +8,16 @@ use Rattle.crossbeam_queue.specs.SegTies.{SegId}
 use Rattle.input_port.specs.Ends.{HeldState}
 use Rattle.port_inbox.specs.Ends.{OwnerState, no_port}
 use Rattle.port_queue.specs.Ends.{newborn}
+use Rattle.run_course.specs.declared.course_log.CourseLog.{CourseLog}
 use Rattle.run_record.specs.Record.{RecordValue}
 use Rattle.sdl_system.specs.System.{SystemValue}
 use Rattle.settle_account.specs.Account.{AllAt, AreOwnersOf, HavePut, put_at}
-use Rattle.settle_closing.specs.Left.{IsLeftOfOne}
+use Rattle.settle_closing.specs.Left.{ClosingState, IsLeftOfOne}
 use Rattle.settle_closing.specs.PortThen.{then_of}
 use Rattle.settle_closing.specs.declared.ending.PortThen.{PortThen}
 use Rattle.port_values.specs.declared.value.Value.{Value}
 use Rattle.settle_run.specs.Gifts.{children_at, given_at}
-use Rattle.settle_run.specs.Parts.{AreParts, AreThensOf, owner_at}
+use Rattle.settle_run.specs.Parts.{AreColumnsOf, AreParts, AreThensOf, logs_of, owner_at, owners_in, owners_of, peers_of, records_of}
 use Rattle.threads_instance.specs.declared.doings.Child.{Child}
 use Rattle.threads_instance.specs.declared.doings.Gifts.{Gifts}
 use Rattle.threads_senders.specs.Peers.{PeersState, put_to}
@@ -173,6 +174,43 @@ module _ (named : Option SystemValue) (ports : ℕ → SegId Global) (whole : Bo
         port = ap (λ (o : OwnerState). o.port) (owner ∙ left.left.owner_is) ∙ left.left.seated.port
             ∙ ap ports (sym left.left.closed.pid ∙ ap (λ (t : RecordValue). t.pid) (sym is));
       }
+
+-- ---- of which instances the columns are
+
+pub columns_none : (environment : PeersState) (records : List RecordValue) (logs : List CourseLog)
+    (inboxes : List HeldState) (places : List PeersState) → records ≡ [] → logs ≡ [] → inboxes ≡ []
+    → places ≡ environment ∷ [] → AreColumnsOf environment [] records logs inboxes places
+columns_none environment records logs inboxes places records_are logs_are inboxes_are places_are = record {
+  records_are = records_are;
+  logs_are = logs_are;
+  owners_are = ap owners_in inboxes_are;
+  places_are = places_are;
+}
+
+-- one instance more
+pub columns_more : (environment : PeersState) (closings : List ClosingState) (closing : ClosingState)
+    (records more_records : List RecordValue) (logs more_logs : List CourseLog) (inboxes more_inboxes : List HeldState)
+    (places more_places : List PeersState) (trace : RecordValue) (log : CourseLog) (inbox : HeldState)
+    (peers : PeersState) → AreColumnsOf environment closings records logs inboxes places → trace ≡ closing.trace
+    → log ≡ closing.course → inbox.owner ≡ closing.owner → peers ≡ closing.peers → more_records ≡ records ++ trace ∷ []
+    → more_logs ≡ logs ++ log ∷ [] → more_inboxes ≡ inboxes ++ inbox ∷ [] → more_places ≡ places ++ peers ∷ []
+    → AreColumnsOf environment (closings ++ closing ∷ []) more_records more_logs more_inboxes more_places
+columns_more environment closings closing records more_records logs more_logs inboxes more_inboxes places more_places
+    trace log inbox peers are trace_is log_is owner_is peers_are records_more logs_more inboxes_more places_more = record {
+      records_are = records_more ∙ ap (λ l. l ++ trace ∷ []) are.records_are
+          ∙ ap (λ (t : RecordValue). records_of closings ++ t ∷ []) trace_is
+          ∙ sym (map-append (λ (c : ClosingState). c.trace) closings (closing ∷ []));
+      logs_are = logs_more ∙ ap (λ l. l ++ log ∷ []) are.logs_are
+          ∙ ap (λ (x : CourseLog). logs_of closings ++ x ∷ []) log_is
+          ∙ sym (map-append (λ (c : ClosingState). c.course) closings (closing ∷ []));
+      owners_are = ap owners_in inboxes_more ∙ map-append (λ (h : HeldState). h.owner) inboxes (inbox ∷ [])
+          ∙ ap (λ l. l ++ inbox.owner ∷ []) are.owners_are
+          ∙ ap (λ (o : OwnerState). owners_of closings ++ o ∷ []) owner_is
+          ∙ sym (map-append (λ (c : ClosingState). c.owner) closings (closing ∷ []));
+      places_are = places_more ∙ ap (λ l. l ++ peers ∷ []) are.places_are
+          ∙ ap (λ (p : PeersState). environment ∷ (peers_of closings ++ p ∷ [])) peers_are
+          ∙ ap (λ l. environment ∷ l) (sym (map-append (λ (c : ClosingState). c.peers) closings (closing ∷ [])));
+    }
 
 pub have_put : (places : List PeersState) → AllAt (HavePut (put_at places)) places
 have_put places k d within number =

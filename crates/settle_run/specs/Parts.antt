@@ -1,5 +1,5 @@
 -- What is left of a run whose records are closed (Z.101: system).
-use Rattle.std.specs.Prelude.{◌≡◌, ◌+◌, ℕ, Bool, List, [], Option, length, slice_index_or}
+use Rattle.std.specs.Prelude.{◌≡◌, ◌+◌, ℕ, Bool, List, [], ◌∷◌, Option, length, map, slice_index_or}
 use Rattle.std.specs.declared.alloc.Global.{Global}
 use Rattle.crossbeam_queue.specs.SegTies.{SegId}
 use Rattle.input_port.specs.Ends.{HeldState}
@@ -7,11 +7,12 @@ use Rattle.input_port.specs.Held.{IsKept}
 use Rattle.port_inbox.specs.Ends.{OwnerState, no_port}
 use Rattle.port_queue.specs.Ends.{newborn}
 use Rattle.port_values.specs.declared.item.Item.{Item}
+use Rattle.run_course.specs.declared.course_log.CourseLog.{CourseLog}
 use Rattle.run_record.specs.Record.{RecordValue}
 use Rattle.sdl_system.specs.System.{SystemValue}
 use Rattle.settle_account.specs.Account.{AllAt}
 use Rattle.settle_closing.specs.History.{EndsAs}
-use Rattle.settle_closing.specs.Left.{IsLeftOfOne}
+use Rattle.settle_closing.specs.Left.{ClosingState, IsLeftOfOne}
 use Rattle.settle_closing.specs.PortThen.{then_of}
 use Rattle.settle_closing.specs.declared.ending.PortThen.{PortThen}
 use Rattle.settle_gathering.specs.Gathering.{IsCounted}
@@ -41,6 +42,35 @@ pub record AreParts (named : Option SystemValue) (ports : ℕ → SegId Global) 
       IsLeftOfOne named ports whole trace (owner_at inboxes k) (slice_index_or places (k + 1) []) (given_at gifts k)
       (children_at gifts k)) records
   pub thens_are : AreThensOf (owner_at inboxes) thens
+
+-- ---- of which instances they are
+
+abbrev pub records_of : List ClosingState → List RecordValue
+records_of closings = map (λ (closing : ClosingState). closing.trace) closings
+
+abbrev pub logs_of : List ClosingState → List CourseLog
+logs_of closings = map (λ (closing : ClosingState). closing.course) closings
+
+abbrev pub owners_of : List ClosingState → List OwnerState
+owners_of closings = map (λ (closing : ClosingState). closing.owner) closings
+
+abbrev pub peers_of : List ClosingState → List PeersState
+peers_of closings = map (λ (closing : ClosingState). closing.peers) closings
+
+-- the owners of some ports
+abbrev pub owners_in : List HeldState → List OwnerState
+owners_in inboxes = map (λ (inbox : HeldState). inbox.owner) inboxes
+
+-- the records of these closed instances, what is kept of their courses, the owners of their ports, and their senders, those
+-- of the environment first: each in the order of the instances
+pub record AreColumnsOf (environment : PeersState) (closings : List ClosingState) (records : List RecordValue)
+    (logs : List CourseLog) (inboxes : List HeldState) (places : List PeersState) : Type 0 where
+  pub records_are : records ≡ records_of closings
+  pub logs_are : logs ≡ logs_of closings
+  pub owners_are : owners_in inboxes ≡ owners_of closings
+  pub places_are : places ≡ environment ∷ peers_of closings
+
+-- ---- their ports
 
 -- The port of a record was counted, with the senders of so many places, and the record closes as the run ends.
 pub record IsSettledPort (put : ℕ → List Item) (places : ℕ) (whole : Bool) (end : ℕ) (first : OwnerState)

@@ -6,12 +6,15 @@
 //! an instance at which something is missing.
 #![tactic(auto)]
 
+mod course;
 mod gifts;
 mod parts;
 mod ports;
 mod report;
+mod settled;
 mod settling;
 
 pub use report::report_of;
 pub use settle_account::Ending;
+pub use settled::Settled;
 pub use settling::settle;

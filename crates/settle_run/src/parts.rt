@@ -1,9 +1,10 @@
 //! What is left of a run, in columns.
 
 ghost use Rattle.std.specs.Prelude.{IfOk};
-ghost use Rattle.settle_run.specs.Parts.{AreParts};
+ghost use Rattle.settle_run.specs.Parts.{AreColumnsOf, AreParts};
 
 use input_port::Held;
+use run_course::CourseLog;
 use run_record::{Record, RunError};
 use settle_closing::{Closing, PortThen};
 use std::alloc::Global;
@@ -11,11 +12,13 @@ use std::sync::Wait;
 use threads_instance::{Gifts, Left};
 use threads_senders::{Peers, Run};
 
-/// The parts of a run that are left: the records, what the instance of each was given and gave, and their ports.
+/// The parts of a run that are left: the records, what the instance of each was given and gave, what is kept of its course,
+/// and their ports.
 #[derive(Drop)]
 pub struct Parts<'p, J: Run, R: Wait + Copy> {
     pub records: Vec<Record>,
     pub gifts: Vec<Gifts>,
+    pub logs: Vec<CourseLog>,
     pub ports: PortParts<'p, J, R>,
 }
 
@@ -35,12 +38,15 @@ pub fn parts_of<'p, J: Run, R: Wait + Copy>(
     closings: Vec<Closing<'p, J, R>>,
     environment: Peers<J>,
 ) -> Result<Parts<'p, J, R>, RunError>
-    ensures { IfOk result (λ parts. AreParts J.system J.ports whole environment parts.records.items parts.gifts.items
-        parts.ports.inboxes.items parts.ports.thens.items parts.ports.places.items) }
+    ensures parts { IfOk result (λ parts. AreParts J.system J.ports whole environment parts.records.items
+        parts.gifts.items parts.ports.inboxes.items parts.ports.thens.items parts.ports.places.items) }
+    ensures columns { IfOk result (λ parts. AreColumnsOf environment closings.entry.items parts.records.items
+        parts.logs.items parts.ports.inboxes.items parts.ports.places.items) }
 {
     let count = closings.len();
     let mut records = Vec::with_capacity(alloc, count)?;
     let mut gifts = Vec::with_capacity(alloc, count)?;
+    let mut logs = Vec::with_capacity(alloc, count)?;
     let mut inboxes = Vec::with_capacity(alloc, count)?;
     let mut thens = Vec::with_capacity(alloc, count)?;
     let mut places = Vec::new(alloc);
@@ -56,9 +62,11 @@ pub fn parts_of<'p, J: Run, R: Wait + Copy>(
             inbox,
             peers,
             gifts: own,
+            course,
         } = closing.into_left();
         records.push(trace)?;
         gifts.push(own)?;
+        logs.push(course)?;
         inboxes.push(inbox)?;
         places.push(peers)?;
     }
@@ -70,6 +78,7 @@ pub fn parts_of<'p, J: Run, R: Wait + Copy>(
     Ok(Parts {
         records,
         gifts,
+        logs,
         ports,
     })
 }

@@ -1,10 +1,12 @@
 //! The ports of a run, once all that was put is drawn.
 
-ghost use Rattle.std.specs.Prelude.{◌≡◌, ℕ, OnOk, vec_len};
+ghost use Rattle.std.specs.Prelude.{◌≡◌, ℕ, false, IfOk, IfSome, None, OnOk, vec_len};
 ghost use Rattle.settle_account.specs.Account.{AllAt, AreCountsOf, AreOwnersOf, HavePut};
 ghost use Rattle.settle_closing.specs.PortThen.{then_of};
+ghost use Rattle.settle_run.specs.Course.{ArePuts};
 ghost use Rattle.settle_run.specs.Parts.{AreSettledPorts, AreThensOf, IsSettledPort};
 
+use crate::course::puts_of;
 use crate::parts::PortParts;
 use input_port::Held;
 use port_values::Ticks;
@@ -16,9 +18,10 @@ use std::sync::Wait;
 use threads_senders::Run;
 use threads_shared::Shared;
 
-/// Counts the ports of all records, and looks whether the records close as the run ends. That the name says what the
-/// places have put and who the owners are is the caller's condition. `lacks_memory`: an instance failed for lack of memory.
-/// Lost: with the number of the port.
+/// Counts the ports of all records, and looks whether the records close as the run ends. Answers who put what was drawn
+/// from each, where the course of the run is kept. None: it isn't kept of all. That the name says what the places have
+/// put and who the owners are is the caller's condition. `lacks_memory`: an instance failed for lack of memory.
+/// Memory: no room for the counts, or for what is kept. Lost: with the number of the port.
 pub fn settle_ports<'p, J: Run, K: Fixed, R: Wait + Copy>(
     shared: &Shared<'_, '_, 'p, J, R>,
     records: &[Record],
@@ -26,11 +29,15 @@ pub fn settle_ports<'p, J: Run, K: Fixed, R: Wait + Copy>(
     whole: bool,
     end: Ticks,
     lacks_memory: bool,
-) -> Result<(), RunError>
+) -> Result<Option<Vec<Vec<u32>>>, RunError>
     requires puts { AllAt (HavePut K.puts) ports.places.items }
     requires owners { AreOwnersOf K.owners J.ports records.now ports.inboxes.items }
     requires thens { AreThensOf K.owners ports.thens.items }
-    ensures { OnOk result (AreSettledPorts K.puts K.owners (vec_len ports.entry.places) whole end records.now) }
+    ensures settled { IfOk result (λ _.
+        AreSettledPorts K.puts K.owners (vec_len ports.entry.places) whole end records.now) }
+    ensures off { shared.now.keeps_course ≡ false → IfOk result (λ kept. kept ≡ None) }
+    ensures kept { IfOk result (λ kept. IfSome kept (λ rows.
+        ArePuts K.puts K.owners (vec_len ports.entry.places) records.now rows.items)) }
 {
     let PortParts {
         inboxes,
@@ -42,7 +49,8 @@ pub fn settle_ports<'p, J: Run, K: Fixed, R: Wait + Copy>(
     if !lacks_memory {
         all_gathered(shared, &counted)?;
     }
-    Ok(())
+    let kept = puts_of(shared, counted)?;
+    Ok(kept)
 }
 
 /// Looks whether each record closes as the run ends.

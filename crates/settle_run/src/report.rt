@@ -1,8 +1,12 @@
-//! The report of a run whose records are closed.
+//! The end of a run whose records are closed.
 
-ghost use Rattle.std.specs.Prelude.{IfOk};
+ghost use Rattle.std.specs.Prelude.{◌≡◌, IfOk, IfSome, length};
+ghost use Rattle.settle_run.specs.Course.{AreRowsOf, HasRows};
+ghost use Rattle.settle_run.specs.Parts.{records_of};
 ghost use Rattle.settle_meaning.specs.Settled.{IsSettledReport};
 
+use crate::Settled;
+use crate::course::{course_of, senders_of};
 use crate::gifts::all_given;
 use crate::parts::{Parts, parts_of};
 use crate::ports::settle_ports;
@@ -19,8 +23,9 @@ use threads_environment::Environment;
 use threads_senders::Run;
 use threads_shared::Shared;
 
-/// The report of a run whose records are closed, in the order of their numbers. It is settled: what the records say fits,
-/// and for all behaviours that the processes of the system mean it is whole or cut, and nothing was lost between threads.
+/// A run whose records are closed, in the order of their numbers. Its report is settled: what the records say fits, and
+/// for all behaviours that the processes of the system mean it is whole or cut, and nothing was lost between threads.
+/// Where the course of the run is kept, so is it beside the report: each row is that of its record.
 ///
 /// Lost, with a number: a record or a signal is missing, or what is recorded breaks what a report has to be, as `compare`,
 /// `all_given`, `end_of_run` and the counts of the ports tell it. At most `workers` threads look at the records.
@@ -30,9 +35,14 @@ pub fn report_of<'p, J: Run, R: Threads + Wait + Copy + Sync>(
     environment: Environment<'_, J>,
     ending: Ending,
     workers: usize,
-) -> Result<Report, RunError>
-    ensures { IfOk result (λ report.
-        IsSettledReport shared.now.system.now environment.entry.lines ending.limit report) }
+) -> Result<Settled, RunError>
+    ensures settled { IfOk result (λ settled.
+        IsSettledReport shared.now.system.now environment.entry.lines ending.limit settled.report) }
+    ensures rows { IfOk result (λ settled.
+        IfSome settled.course (HasRows (length settled.report.records.items))) }
+    ensures records { IfOk result (λ settled. settled.report.records.items ≡ records_of closings.entry.items) }
+    ensures columns { IfOk result (λ settled.
+        IfSome settled.course (AreRowsOf environment.entry.peers closings.entry.items)) }
 {
     let alloc = shared.alloc;
     let system = shared.system;
@@ -48,6 +58,7 @@ pub fn report_of<'p, J: Run, R: Threads + Wait + Copy + Sync>(
     let Parts {
         records,
         gifts,
+        logs,
         ports,
     } = parts_of(alloc, whole, closings, environment.into_peers())?;
     let all = records.as_slice();
@@ -68,10 +79,14 @@ pub fn report_of<'p, J: Run, R: Threads + Wait + Copy + Sync>(
     closed_have_histories();
     closed_have_put();
     counted_have_put();
-    settle_ports::<J, Brand, R>(shared, all, ports, whole, end, lacks_memory)?;
-    Ok(Report {
+    let places = ports.places.as_slice();
+    let senders = senders_of(shared, places)?;
+    let puts = settle_ports::<J, Brand, R>(shared, all, ports, whole, end, lacks_memory)?;
+    let course = course_of(alloc, puts, senders, logs)?;
+    let report = Report {
         records,
         end,
         whole,
-    })
+    };
+    Ok(Settled { report, course })
 }

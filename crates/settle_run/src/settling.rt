@@ -1,11 +1,13 @@
 //! The end of a run on threads: the calling thread goes on with it, and several look at its records.
 
-ghost use Rattle.std.specs.Prelude.{IfOk};
+ghost use Rattle.std.specs.Prelude.{IfOk, IfSome, length};
+ghost use Rattle.settle_run.specs.Course.{HasRows};
 ghost use Rattle.settle_meaning.specs.Settled.{IsSettledReport};
 
+use crate::Settled;
 use crate::report::report_of;
 use port_values::Ticks;
-use run_record::{Report, RunError};
+use run_record::RunError;
 use settle_account::Ending;
 use settle_closing::{Closing, close};
 use settle_rest::run_rest;
@@ -18,9 +20,10 @@ use threads_shared::{Own, Seated, Shared};
 /// How many numbers there are.
 const MOST_NUMBERS: u32 = 1_000;
 
-/// Settles a run, at this time: goes on with it on this thread where fewer transitions than `limit` are made, closes all
-/// records, and gives the report. All threads of the run are joined: the caller's condition. The report is settled: for all
-/// behaviours that the processes of the system mean it is whole or cut, and nothing was lost between threads.
+/// Settles a run, at this time: goes on with it on this thread where fewer transitions than `limit` are made, closes
+/// all records, and gives the report, with what was kept for the order of all. All threads of the run are joined: the
+/// caller's condition. The report is settled: for all behaviours that the processes of the system mean it is whole or
+/// cut, and nothing was lost between threads. A course has a row for each record.
 ///
 /// Memory: no room for the records, or for what is sent. Lost, with a number: an instance that is entered isn't in its
 /// place; in a whole run one doesn't rest; or as `report_of` tells it. At most `workers` threads look at the records.
@@ -31,9 +34,11 @@ pub fn settle<J: Run, R: Threads + Wait + Copy + Sync>(
     at: Ticks,
     limit: u64,
     workers: usize,
-) -> Result<Report, RunError>
-    ensures { IfOk result (λ report.
-        IsSettledReport shared.now.system.now environment.entry.lines limit report) }
+) -> Result<Settled, RunError>
+    ensures settled { IfOk result (λ settled.
+        IsSettledReport shared.now.system.now environment.entry.lines limit settled.report) }
+    ensures rows { IfOk result (λ settled.
+        IfSome settled.course (HasRows (length settled.report.records.items))) }
 {
     let mut environment = environment;
     // All threads are joined, so the sum has all transitions, and nobody but this thread adds to it.
@@ -42,8 +47,8 @@ pub fn settle<J: Run, R: Threads + Wait + Copy + Sync>(
     let whole = shared.tables.signs.moves() < limit;
     let closings = close_all(shared, own, whole, at)?;
     let ending = Ending { whole, limit };
-    let report = report_of(shared, closings, environment, ending, workers)?;
-    Ok(report)
+    let settled = report_of(shared, closings, environment, ending, workers)?;
+    Ok(settled)
 }
 
 /// Closes the records of all instances that are entered, by ascending numbers.

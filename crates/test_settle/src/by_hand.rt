@@ -3,10 +3,10 @@
 use crate::withholding::Withholding;
 use port_inbox::Fuse;
 use port_values::Ticks;
-use run_record::{Report, RunError};
+use run_record::RunError;
 use sdl_system::ProcessId;
 use settle_closing::{Closing, close};
-use settle_run::{Ending, report_of};
+use settle_run::{Ending, Settled, report_of};
 use std::alloc::AllocError;
 use std::sync::Wait;
 use std::thread::Threads;
@@ -44,14 +44,14 @@ pub struct Made {
     pub late: &'static [Act],
 }
 
-/// The report of a run that is made so, with this limit.
+/// The end of a run that is made so, with this limit.
 pub fn by_hand<J: Run, R: Threads + Wait + Copy + Sync>(
     shared: &Shared<'_, '_, '_, J, R>,
     own: &mut Own<J>,
     environment: Environment<'_, J>,
     limit: u64,
     made: Made,
-) -> Result<Report, RunError> {
+) -> Result<Settled, RunError> {
     let mut environment = environment;
     let mut fuses = Vec::new(shared.alloc);
     do_all(shared, own, &mut environment, &mut fuses, made.acts)?;

@@ -14,6 +14,8 @@ mod cases;
 #[cfg(test)]
 mod counted;
 #[cfg(test)]
+mod course;
+#[cfg(test)]
 mod gates;
 #[cfg(test)]
 mod given;

@@ -13,7 +13,7 @@ use sdl_timers::clock;
 use settle_closing::laws::left_without_peers;
 use settle_closing::{Closing, close};
 use settle_rest::run_rest;
-use settle_run::{Ending, report_of, settle};
+use settle_run::{Ending, Settled, report_of, settle};
 use std::alloc::Global;
 use std::marker::Brand;
 use std::sync::Wait;
@@ -108,19 +108,16 @@ fn run_common<J: Run, R: Threads + Wait + Copy + Sync>(
     let system = &given.system;
     let mut places = Places::new(alloc)?;
     let tables = Tables::new(alloc, system, 1, limit)?;
-    let report = run_shared(
-        &Shared {
-            alloc,
-            rt,
-            system,
-            common,
-            tables: &tables,
-            places: &places,
-        },
-        given,
-        plan,
-        seat,
-    );
+    let shared = Shared {
+        alloc,
+        rt,
+        system,
+        common,
+        tables: &tables,
+        places: &places,
+        keeps_course: false,
+    };
+    let report = run_shared(&shared, given, plan, seat);
     tables.end_with(&mut places);
     report
 }
@@ -136,7 +133,8 @@ fn run_shared<J: Run, R: Threads + Wait + Copy + Sync>(
 {
     let alloc = plan.alloc;
     let reader = clock(alloc)?.reader;
-    let mut own = Own::new(alloc, reader, seat, shared.system.processes().len(), 1)?;
+    let processes = shared.system.processes().len();
+    let mut own = Own::new(alloc, reader, seat, processes, 1, false)?;
     let report = run_from_start(shared, &mut own, given, plan);
     own.end_with(shared);
     report
@@ -166,19 +164,20 @@ fn settle_by<J: Run, R: Threads + Wait + Copy + Sync>(
     let mut environment = environment;
     let Plan { limit, way, .. } = plan;
     let start = Ticks::new(0);
-    match way {
-        Way::AtOnce => settle(shared, own, environment, start, limit, THREADS),
+    let settled = match way {
+        Way::AtOnce => settle(shared, own, environment, start, limit, THREADS)?,
         Way::After(count) => {
             let at = run_rest(shared, own, &mut environment, start, count)?;
-            settle(shared, own, environment, at, limit, THREADS)
+            settle(shared, own, environment, at, limit, THREADS)?
         }
         Way::WithoutInstance(number) => {
             lose_instance(shared, number);
-            settle(shared, own, environment, start, limit, THREADS)
+            settle(shared, own, environment, start, limit, THREADS)?
         }
-        Way::WithoutSenders(number) => cut_without(shared, own, environment, limit, number),
-        Way::ByHand(made) => by_hand(shared, own, environment, limit, made),
-    }
+        Way::WithoutSenders(number) => cut_without(shared, own, environment, limit, number)?,
+        Way::ByHand(made) => by_hand(shared, own, environment, limit, made)?,
+    };
+    Ok(settled.report)
 }
 
 /// Takes an instance out of its place, and lets it go.
@@ -195,7 +194,7 @@ fn cut_without<J: Run, R: Threads + Wait + Copy + Sync>(
     environment: Environment<'_, J>,
     limit: u64,
     number: Option<u32>,
-) -> Result<Report, RunError> {
+) -> Result<Settled, RunError> {
     let mut environment = environment;
     let at = run_rest(shared, own, &mut environment, Ticks::new(0), limit)?;
     let closings = closings_without(shared, own, at, number)?;
@@ -254,6 +253,7 @@ fn without_peers<'p, J: Run, R: Wait + Copy>(
         trace,
         inbox,
         gifts,
+        course,
         ..
     } = closing.into_left();
     let left = Left {
@@ -261,6 +261,7 @@ fn without_peers<'p, J: Run, R: Wait + Copy>(
         inbox,
         peers: Peers::new(alloc),
         gifts,
+        course,
     };
     Closing::new(whole, left)
 }

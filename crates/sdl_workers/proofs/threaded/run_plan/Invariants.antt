@@ -1,6 +1,6 @@
 use Rattle.std.specs.Prelude.{Some}
 use Rattle.threads_ports.specs.Named.{name_of}
-use Rattle.sdl_workers.proofs.threaded.run.Given as goal
+use Rattle.sdl_workers.proofs.threaded.run_plan.Given as goal
 
 -- the run's name: its system, the ports that were made, and the table
 abbrev pub ghosts-run_named : goal.ghosts-run_named
