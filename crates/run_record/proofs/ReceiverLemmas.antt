@@ -12,10 +12,10 @@ use Rattle.sdl_system.specs.declared.route.Target as reached
 use Rattle.sdl_system.specs.declared.route.Target.TheVariants as target
 use Rattle.run_record.specs.Event as event
 use Rattle.run_record.specs.Event.{receiver_of, receivers}
-use Rattle.run_record.specs.Packed.{count_of, counted, events_in, instance_of, is_event, receiver_in, receivers_in, target_of, time_after, time_in, told, told_at}
+use Rattle.run_record.specs.Packed.{IsOfOneTime, count_of, counted, events_in, instance_of, is_event, receiver_in, receivers_in, target_of, time_after, time_in, told, told_at}
 use Rattle.run_record.specs.declared.packed.Packed as packed
 use Rattle.run_record.specs.declared.packed.Packed.TheVariants as pack
-use Rattle.run_record.proofs.PackedLemmas.{counted-append, length-event, told-append}
+use Rattle.run_record.proofs.PackedLemmas.{counted-append, length-event, time_in-append, told-append}
 
 -- ---- whom entries reach, and their events
 
@@ -161,11 +161,33 @@ drop-front front back n =
     let none = nil_from_length back past.0 in
     drop_all n (front ++ back) (omega (arith, past.0, past.1, length-append front back)) ∙ sym none)
 
-pub receivers-from : (entries back : List packed.Packed) (values : List Value) (len begin count : ℕ)
+-- the last entries, and the values before theirs
+pub front-counted : (entries back : List packed.Packed) (values : List Value) → counted entries ≡ length values
+    → back ≡ drop (length entries - length back) entries
+    → counted (take (length entries - length back) entries) + counted back ≡ length values
+front-counted entries back values counts back_is =
+    let n = length entries - length back in
+    let front = take n entries in
+    let whole : entries ≡ front ++ back = sym (take-append-drop n entries) ∙ ap (λ l. front ++ l) (sym back_is) in
+    sym (counted-append front back) ∙ sym (ap counted whole) ∙ counts
+
+-- the last entries are of the time of all, if none of them is a time
+pub front-time : (entries back : List packed.Packed) → back ≡ drop (length entries - length back) entries
+    → IsOfOneTime back → time_in 0 (take (length entries - length back) entries) ≡ time_in 0 entries
+front-time entries back back_is one =
+    let n = length entries - length back in
+    let front = take n entries in
+    let whole : entries ≡ front ++ back = sym (take-append-drop n entries) ∙ ap (λ l. front ++ l) (sym back_is) in
+    sym (ap (time_in 0) whole ∙ time_in-append 0 front back ∙ one (time_in 0 front))
+
+-- what the last entries tell
+pub told-from : (entries back : List packed.Packed) (values : List Value) (len begin count : ℕ)
     → counted entries ≡ length values → length (told 0 entries values) ≡ len → count ≡ len - begin
     → back ≡ drop (length entries - length back) entries → events_in back ≡ min count (events_in entries)
-    → receivers_in back ≡ receivers (drop begin (told 0 entries values))
-receivers-from entries back values len begin count counts len_is count_is back_is events =
+    → drop begin (told 0 entries values)
+    ≡ told (time_in 0 (take (length entries - length back) entries)) back
+    (drop (counted (take (length entries - length back) entries)) values)
+told-from entries back values len begin count counts len_is count_is back_is events =
     let n = length entries - length back in
     let front = take n entries in
     let first = take (counted front) values in
@@ -182,12 +204,19 @@ receivers-from entries back values len begin count counts len_is count_is back_i
     let all : len ≡ events_in entries = sym len_is ∙ length-events 0 entries values in
     let front_long = length-events 0 front first in
     let back_long = length-events (time_in 0 front) back later in
-    let rest : drop begin (told 0 entries values) ≡ told (time_in 0 front) back later =
     ap (drop begin) split
     ∙ drop-front (told 0 front first) (told (time_in 0 front) back later) begin
     (⊎_elim
     (λ (past : len < begin).
     inr (omega (arith, back_long, events, count_is, past), omega (arith, front_long, both, all, past)))
     (λ (within : begin ≤ len). inl (omega (arith, front_long, both, all, events, count_is, within)))
-    (cases_lt len begin)) in
-    sym (ap receivers rest ∙ receivers-told (time_in 0 front) back later)
+    (cases_lt len begin))
+
+pub receivers-from : (entries back : List packed.Packed) (values : List Value) (len begin count : ℕ)
+    → counted entries ≡ length values → length (told 0 entries values) ≡ len → count ≡ len - begin
+    → back ≡ drop (length entries - length back) entries → events_in back ≡ min count (events_in entries)
+    → receivers_in back ≡ receivers (drop begin (told 0 entries values))
+receivers-from entries back values len begin count counts len_is count_is back_is events =
+    let front = take (length entries - length back) entries in
+    sym (ap receivers (told-from entries back values len begin count counts len_is count_is back_is events)
+    ∙ receivers-told (time_in 0 front) back (drop (counted front) values))

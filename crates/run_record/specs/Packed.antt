@@ -119,6 +119,10 @@ abbrev pub time_in : ℕ → List packed.Packed → ℕ
 time_in time [] = time
 time_in time (one ∷ rest) = time_in (time_after time one) rest
 
+-- none of them is a time
+abbrev pub IsOfOneTime : List packed.Packed → Type 0
+IsOfOneTime entries = (time : ℕ) → time_in time entries ≡ time
+
 -- their events from this time on; the values of all stand in one list, in their order
 abbrev pub told : ℕ → List packed.Packed → List value.Value → List event.Event
 told time [] values = []

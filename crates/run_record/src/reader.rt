@@ -59,6 +59,18 @@ impl<'r> Reader<'r> {
         }
     }
 
+    /// A reader of the last entries of a record, which are of this time.
+    pub(crate) fn of_one_time(entries: &'r [Packed], values: &'r [Value], time: u64) -> Reader<'r>
+        requires { counted entries.now ≤ length values.now }
+        ensures { result ≡ told time entries.now values.now }
+    {
+        Reader {
+            entries,
+            values,
+            time,
+        }
+    }
+
     /// A reader of the same events.
     pub fn again(&self) -> Reader<'r>
         ensures { result ≡ self.now }

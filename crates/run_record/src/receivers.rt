@@ -1,7 +1,7 @@
 //! Whom outputs of a record reach.
 
-ghost use Rattle.std.specs.Prelude.{◌≡◌, ◌-◌, drop, length, min};
-ghost use Rattle.run_record.specs.Packed.{events_in, receivers_in};
+ghost use Rattle.std.specs.Prelude.{◌≡◌, ◌-◌, IfSome, drop, length, min};
+ghost use Rattle.run_record.specs.Packed.{IsOfOneTime, counted, events_in, receivers_in};
 
 use crate::packed::Packed;
 use std::marker::Model;
@@ -54,6 +54,22 @@ impl<'r> Iterator for Receivers<'r> {
         }
         None
     }
+}
+
+/// How many values the entries have, if none of them is a time: then all are of the time before them. None: one is a time.
+pub(crate) fn values_of_one_time(entries: &[Packed]) -> Option<usize>
+    ensures { IfSome result (λ count. (counted entries.now ≡ count) × IsOfOneTime entries.now) }
+{
+    let mut left = entries;
+    let mut count = 0usize;
+    'on: while let Some((first, others)) = left.split_first() {
+        if !first.is_event() {
+            return None;
+        }
+        count = count.checked_add(first.count())?;
+        left = others;
+    }
+    Some(count)
 }
 
 /// The last entries, so that these are as many events, or all if there are fewer.

@@ -1,6 +1,6 @@
 //! Records of instances and the report of a run.
 
-ghost use Rattle.std.specs.Prelude.{◌≡◌, ◌+◌, ◌^◌, ◌<◌, ◌≤◌, ◌++◌, ◌∷◌, [], ℕ, List, drop, length, vec_len, vec_capacity, IsOk, IsTrue, MatchOption, OnOk};
+ghost use Rattle.std.specs.Prelude.{◌≡◌, ◌+◌, ◌^◌, ◌<◌, ◌≤◌, ◌++◌, ◌∷◌, [], ℕ, List, drop, length, vec_len, vec_capacity, IfSome, IsOk, IsTrue, MatchOption, OnOk};
 ghost use Rattle.run_record.specs.Event as event;
 ghost use Rattle.run_record.specs.Event.{receivers};
 ghost use Rattle.run_record.specs.Packed.{count_of, is_event, time_to, told_at};
@@ -10,7 +10,7 @@ ghost use Rattle.run_record.specs.Told.{event_told};
 use crate::growing::grow;
 use crate::packed::Packed;
 use crate::reader::{Reader, Told};
-use crate::receivers::{Receivers, last_entries};
+use crate::receivers::{Receivers, last_entries, values_of_one_time};
 use port_values::{Pid, Ticks, Value};
 use sdl_system::ProcessId;
 use std::alloc::{AllocError, Global};
@@ -191,6 +191,21 @@ impl Record {
         let entries = self.entries.as_slice();
         let count = self.len.saturating_sub(told);
         Receivers::of(last_entries(entries, count))
+    }
+
+    /// The events after so many, if they are of one time: those before them aren't read. None: they aren't of one time, and
+    /// `reader` has to go to them.
+    pub fn reader_from(&self, told: usize) -> Option<Reader<'_>>
+        ensures { IfSome result (λ events. events ≡ drop told self.now.events) }
+    {
+        let entries = self.entries.as_slice();
+        let values = self.values.as_slice();
+        let count = self.len.saturating_sub(told);
+        let last = last_entries(entries, count);
+        let own = values_of_one_time(last)?;
+        let place = values.len() - own;
+        let (_, later) = values.split_at(place);
+        Some(Reader::of_one_time(last, later, self.time))
     }
 
     /// Makes room for so many events and, with them, so many values. Nothing else changes, and there is never less room
