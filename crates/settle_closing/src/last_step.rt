@@ -7,6 +7,7 @@ ghost use Rattle.sdl_interp.specs.Instance.{IsAtRest, IsRunAs, Keeps};
 ghost use Rattle.sdl_interp.specs.declared.instance.Stepped.TheVariants.{Ended, Idle};
 ghost use Rattle.settle_closing.specs.Left.{HasNoMore, IsClosedNow};
 ghost use Rattle.settle_closing.specs.Noted.{HasNotedRest, IsClosedWith};
+ghost use Rattle.threads_shared.specs.Noting.{StepsAt};
 
 use crate::Closing;
 use input_port::Held;
@@ -84,6 +85,7 @@ fn step_to_rest<'s, 'p, J: Run, R: Wait + Copy>(
     ensures fuses { OnOk result (own.new.fuses.items ≡ []) }
     ensures lost { IfErr result (λ error. error ≡ Lost seated.old.value.instance.who.pid) }
     ensures course { seated.new.value.course ≡ seated.old.value.course }
+    ensures steps { IfOk result (λ stepped. StepsAt at stepped seated.old.value seated.new.value) }
     ensures quiet { IfOk result (λ stepped. (stepped ≡ Idle) ⊎ (stepped ≡ Ended false)) }
 {
     let number = seated.who().pid;

@@ -5,7 +5,7 @@ ghost use Rattle.serial_sweeps.specs.Sweeps.{IsNoFuseBefore};
 ghost use Rattle.serial_sweeps.specs.declared.instance_set.Made.TheVariants.{Transition};
 ghost use Rattle.settle_rest.specs.Noted.{HasNotedAs};
 ghost use Rattle.settle_rest.specs.Woken.{AreNumbers};
-ghost use Rattle.threads_shared.specs.Noting.{HasNoted};
+ghost use Rattle.threads_shared.specs.Noting.{HasNoted, StepsAt};
 
 use crate::instances::Rest;
 use crate::waking::{arm_all, wake, wake_all};
@@ -131,7 +131,8 @@ fn step<'s, 'p, J: Run, R: Wait + Copy>(
     seated: &mut Seated<'s, 'p, J, R>,
     time: Ticks,
 ) -> Stepped
-    ensures { seated.new.value.course ≡ seated.old.value.course }
+    ensures course { seated.new.value.course ≡ seated.old.value.course }
+    ensures steps { StepsAt time result seated.old.value seated.new.value }
 {
     let mut runtime = StepRuntime { shared, own };
     seated.step(shared.alloc, shared.rt, &mut runtime, time)

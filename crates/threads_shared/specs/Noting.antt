@@ -1,11 +1,13 @@
 -- What is noted of a look-up, and of a step in the course of its instance (Z.101: agent; Z.102: output, stop).
 use Rattle.std.specs.Prelude.{◌≡◌, ◌<◌, ◌≤◌, ℕ, List, Option, length}
 use Rattle.run_course.specs.KeptWords.{Notes, NotesAll, emptied}
+use Rattle.sdl_interp.specs.Instance.{Steps}
 use Rattle.sdl_interp.specs.declared.instance.Stepped.{Stepped}
 use Rattle.sdl_interp.specs.declared.instance.Stepped.TheVariants.{Ended, Idle, Moved}
 use Rattle.sdl_system.specs.declared.route.Dest.{Dest}
 use Rattle.sdl_system.specs.declared.route.Dest.TheVariants as to
 use Rattle.threads_instance.specs.ThreadInstance.{ThreadInstanceState}
+use Rattle.threads_instance.specs.ThreadWorld.{world_of}
 
 -- Of a look-up along a path or in a process the version is noted. A Pid is its own target: nothing is noted.
 abbrev pub NotesLookUp : Dest → ℕ → Option (List ℕ) → Option (List ℕ) → Type 0
@@ -42,11 +44,19 @@ IsNoted (Ended counts) told words left old new =
     (told < length old.instance.events → IsNotedEnd words left old new)
     × (length old.instance.events ≤ told → IsUnnoted words left old new)
 
--- A step was made and noted, of an instance that was so before it. Nothing but its course is changed by that.
+-- A step that tells that it was so took an instance at this time from one state to another.
+abbrev pub StepsAt : ℕ → Stepped → ThreadInstanceState → ThreadInstanceState → Type 0
+StepsAt time stepped old new = Steps stepped old.instance (world_of old.instance.system time old.sent old.effects)
+    new.instance (world_of old.instance.system time new.sent new.effects)
+
+-- A step was made and noted as what it tells that it was, of an instance that was so before it. That it is noted changes
+-- nothing but its course.
 pub record HasNoted (stepped : Stepped) (old new : ThreadInstanceState) : Type 0 where
   pub words : Option (List ℕ)
   pub left : Option (List ℕ)
   pub made : ThreadInstanceState
+  pub time : ℕ
+  pub steps : StepsAt time stepped old made
   pub course : made.course ≡ old.course
   pub rest : new ≡ record made { course = new.course }
   pub noted : IsNoted stepped (length old.instance.events) words left made new

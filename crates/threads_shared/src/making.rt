@@ -1,6 +1,8 @@
 //! How an instance is made (Z.102: create).
 
 ghost use Rattle.std.specs.Prelude.{◌≡◌, ◌<◌, ◌≤◌, [], IfNone, IfOk, IfSome, None, OnErr, Some};
+ghost use Rattle.sdl_instances.specs.Instances.{without_reservation};
+ghost use Rattle.sdl_instances.specs.Roster.{reserved_in};
 ghost use Rattle.threads_shared.specs.Making.{IsMade, IsSpent, LivesSince};
 
 use crate::{Seated, Shared};
@@ -73,7 +75,7 @@ fn make_in<J: Run, R: Wait + Copy>(
     if !roster.reserve(process) {
         return Ok(nobody(roster));
     }
-    match make_reserved(shared, seat, process, parent, values) {
+    match make_reserved(roster, shared, seat, process, parent, values) {
         Ok(Some(ticket)) => {
             roster.live(process, ticket.number());
             shared.tables.signs.note_version(roster);
@@ -84,14 +86,26 @@ fn make_in<J: Run, R: Wait + Copy>(
             })
         }
         Ok(None) => {
-            roster.release(process);
+            give_back(roster, shared, process);
             Ok(nobody(roster))
         }
         Err(refused) => {
-            roster.release(process);
+            give_back(roster, shared, process);
             Err(refused)
         }
     }
+}
+
+/// Gives a reservation back, since the create came to nothing. The version that may be announced isn't made.
+fn give_back<J: Run, R: Wait + Copy>(
+    roster: &mut Roster,
+    shared: &Shared<'_, '_, '_, J, R>,
+    process: ProcessId,
+)
+    ensures { roster.new ≡ reserved_in without_reservation roster.old process }
+{
+    roster.release(process);
+    shared.tables.signs.note_version(roster);
 }
 
 /// Nobody was made, in this version of the roster.
@@ -104,9 +118,10 @@ fn nobody(roster: &Roster) -> Made
     }
 }
 
-/// Makes an instance for which there is a reservation. The caller has the lock of the roster.
+/// Makes an instance for which there is a reservation in this roster. The caller has the lock of the roster.
 #[tactic(auto, using(crate::proofs::CreateLemmas::spent_none, crate::proofs::CreateLemmas::spent_one))]
 fn make_reserved<J: Run, R: Wait + Copy>(
+    roster: &Roster,
     shared: &Shared<'_, '_, '_, J, R>,
     seat: &mut NumberSeat<J>,
     process: ProcessId,
@@ -129,7 +144,7 @@ fn make_reserved<J: Run, R: Wait + Copy>(
     let Some(instance) = instance_of(shared, who, values)? else {
         return Ok(None);
     };
-    let ticket = enter(shared, who, instance)?;
+    let ticket = enter(roster, shared, who, instance)?;
     Ok(Some(ticket))
 }
 
@@ -182,8 +197,9 @@ fn inbox_of<'p, J: Run, R: Wait + Copy>(
 }
 
 /// Enters an instance: from now on a signal to its number reaches its port, and it is in its place. The answer is its
-/// ticket.
+/// ticket. Before that the version of this roster is announced in which it lives.
 fn enter<'s, 'p, J: Run, R: Wait + Copy>(
+    roster: &Roster,
     shared: &Shared<'_, 's, 'p, J, R>,
     who: Identity,
     instance: Seated<'s, 'p, J, R>,
@@ -204,6 +220,9 @@ fn enter<'s, 'p, J: Run, R: Wait + Copy>(
         process,
         parent,
     };
+    // A thread that has the number from the script finds the entry without a lock. What it looks up then is by a version
+    // in which the instance lives, as if all this were one moment.
+    shared.tables.signs.announce_version(roster);
     if shared.common.entries.enter(entered).is_err() {
         return Err(AllocError);
     }

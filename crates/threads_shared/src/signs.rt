@@ -68,10 +68,21 @@ impl Signs {
 
     /// Notes the roster's version. The caller has the lock of the roster.
     pub fn note_version(&self, roster: &Roster) {
-        // Before: the word has the version with which the lock of the roster was left last. After: that with which it is
-        // left next. So who sees the version that it knows already knows the roster as it was at that look, and who sees
-        // another one looks at it under its lock.
+        // Before: the word has the version with which the lock of the roster was left last, or the one that was announced
+        // since. After: that with which it is left next. So who sees the version that it knows already knows the roster as
+        // it was at that look, and who sees another one looks at it under its lock.
         self.version.store(roster.version(), Ordering::SeqCst);
+    }
+
+    /// Notes the version that the roster has after its next change. The caller has the lock of the roster, and changes it
+    /// before it leaves the lock, or notes its version again.
+    pub fn announce_version(&self, roster: &Roster) {
+        // Before: the word has the version with which the lock of the roster was left last, and nobody has seen what the
+        // caller is about to show. After: it has the next one. So who sees what is shown after this, and looks up then,
+        // sees another version than it knows, and looks at the roster under its lock, which it has once the caller has
+        // left it.
+        self.version
+            .store(roster.version().saturating_add(1), Ordering::SeqCst);
     }
 
     /// Adds transitions that were made. True: they are as many as the limit.

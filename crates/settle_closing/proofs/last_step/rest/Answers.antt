@@ -33,8 +33,8 @@ returns-clause-noted g c = λ kept. record {
   stepped = c.in_ok-stepped.stepped;
   rests = c.in_ok-stepped.ensures.quiet;
   noted = has_noted c.in_ok-stepped.stepped c.len-told.result _ _ c.args.seated.now.value
-      c.step_to_rest.new.seated.value c.note_stepped.new.seated.value c.in_ok-stepped.ensures.course
-      c.note_stepped.ensures.rest
+      c.step_to_rest.new.seated.value c.note_stepped.new.seated.value c.args.at c.in_ok-stepped.ensures.steps
+      c.in_ok-stepped.ensures.course c.note_stepped.ensures.rest
       (c.len-told.ensures ∙ ap (λ (events : List Event). length events) c.trace.ensures.events
       ∙ ap (λ (m : ThreadInstanceState). length m.instance.events) c.deref.ensures)
       (c.note_stepped.ensures.noted kept);

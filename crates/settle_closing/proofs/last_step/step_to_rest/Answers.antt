@@ -7,6 +7,7 @@ use Rattle.settle_closing.proofs.Stepping.{idle_rested, none_counted}
 use Rattle.settle_closing.proofs.last_step.step_to_rest.Goals as goal
 use Rattle.settle_closing.specs.Left.{HasNoMore}
 use Rattle.threads_instance.specs.ThreadInstance.{ThreadInstanceState}
+use Rattle.threads_shared.specs.Noting.{StepsAt}
 
 pub returns-in-Idle-clause-rests : goal.returns-in-Idle-clause-rests
 returns-in-Idle-clause-rests g c =
@@ -33,3 +34,14 @@ returns-in-Ended-false-clause-events g c =
 
 pub returns-in-Ended-false-clause-quiet : goal.returns-in-Ended-false-clause-quiet
 returns-in-Ended-false-clause-quiet g c = inr (ap Ended c.in-Ended-false.counts-test)
+
+pub returns-in-Idle-clause-steps : goal.returns-in-Idle-clause-steps
+returns-in-Idle-clause-steps g c =
+    subst (λ (m : ThreadInstanceState). StepsAt c.args.at c.step-stepped.result m c.step-stepped.new.self)
+    c.deref_mut.ensures.value c.step-stepped.ensures.steps
+
+pub returns-in-Ended-false-clause-steps : goal.returns-in-Ended-false-clause-steps
+returns-in-Ended-false-clause-steps g c =
+    let stepped = Ended c.in-Ended-false.counts in
+    subst (λ (m : ThreadInstanceState). StepsAt c.args.at stepped m c.step-stepped.new.self) c.deref_mut.ensures.value
+    c.in-Ended-false.ensures.steps
