@@ -1,0 +1,16 @@
+pub mod Beginning
+pub mod Chronicles
+pub mod Closings
+pub mod Happenings
+pub mod Keeping
+pub mod Living
+pub mod Lost
+pub mod Meanings
+pub mod Once
+pub mod Orders
+pub mod Reading
+pub mod SameValues
+pub mod Steps
+pub mod Timing
+pub mod Waiting
+pub mod Weaving

@@ -1,0 +1,14 @@
+pub mod Chronicle
+pub mod Comparing
+pub mod Endings
+pub mod Interleaving
+pub mod Kept
+pub mod Noted
+pub mod OneOrder
+pub mod OrderLaws
+pub mod OrderState
+pub mod Outbox
+pub mod Pending
+pub mod ReplayWorld
+pub mod Roster
+pub mod Woven
