@@ -1,0 +1,3 @@
+pub mod Finder
+pub mod Found
+pub mod Telling

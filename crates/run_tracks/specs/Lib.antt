@@ -1,0 +1,9 @@
+pub mod ByNumber
+pub mod Looks
+pub mod PortTrack
+pub mod RosterTurns
+pub mod Track
+pub mod Tracks
+pub mod Waiting
+pub mod Words
+pub mod WorkList
