@@ -19,7 +19,7 @@ use Rattle.view_timeline.specs.declared.telling.Telling.{Telling}
 use Rattle.view_timeline.specs.declared.moves.Link.TheVariants as is
 use Rattle.view_timeline.specs.declared.moves.Timeline.{Timeline}
 
-map-waits : (row : List Waiting) → map waits row ≡ replicate (length row) is.Waits
+pub map-waits : (row : List Waiting) → map waits row ≡ replicate (length row) is.Waits
 map-waits [] = refl
 map-waits (w ∷ row) = ap (λ l. is.Waits ∷ l) (map-waits row)
 

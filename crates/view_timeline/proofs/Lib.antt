@@ -11,6 +11,7 @@ pub mod Lifetimes
 pub mod MoveLemmas
 pub mod NextLemmas
 pub mod NoteLemmas
+pub mod PartLemmas
 pub mod RowLemmas
 pub mod Steps
 pub mod Takes

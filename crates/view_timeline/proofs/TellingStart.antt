@@ -19,7 +19,7 @@ use Rattle.view_timeline.specs.declared.telling.Telling.{Telling}
 abbrev pub fresh : RecordValue → CursorValue
 fresh trace = record { number = trace.pid; told = 0; left = trace.events }
 
-get-map : {A B : Type 0} (f : A → B) (xs : List A) (k : ℕ) (x : A) → slice_get xs k ≡ Some x
+pub get-map : {A B : Type 0} (f : A → B) (xs : List A) (k : ℕ) (x : A) → slice_get xs k ≡ Some x
     → slice_get (map f xs) k ≡ Some (f x)
 get-map f [] k x is = let no : ⊥ = cc in absurd no
 get-map f (a ∷ xs) zero x is = let e : a ≡ x = cc in ap (λ y. Some (f y)) e
@@ -37,7 +37,7 @@ or-none : (b : Bool) → b ≡ (b || false)
 or-none true = refl
 or-none false = refl
 
-tells-fresh : (records : List RecordValue) (living begun : ℕ → Bool) (rows : RowsState)
+pub tells-fresh : (records : List RecordValue) (living begun : ℕ → Bool) (rows : RowsState)
     → ((number : ℕ) → living number ≡ is_initial records number)
     → ((number : ℕ) → begun number ≡ is_initial records number) → ((channel : Channel) → rows channel ≡ [])
     → Tells records [] (record { links = []; arrows = 0; living = living; begun = begun; rows = rows })

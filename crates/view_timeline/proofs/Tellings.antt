@@ -15,6 +15,7 @@ use Rattle.view_timeline.specs.Traffic.{Ledger, Notes, Tells, ledger_of}
 use Rattle.view_timeline.proofs.ActLemmas.{notes-links, untimed-takes_none}
 use Rattle.view_timeline.proofs.Gathering.{all-append}
 use Rattle.view_timeline.proofs.Hindrances.{get-middle}
+use Rattle.view_timeline.proofs.PartLemmas.{began-begins}
 use Rattle.view_timeline.proofs.MoveLemmas.{flat_map-last, get-both, get-set_other, get-set_same, go_on-last, moves_of-other, moves_of-own, range-middle, times-move, up_to-move}
 use Rattle.view_timeline.proofs.Takes.{tells-notes}
 use Rattle.view_timeline.specs.declared.cursor.Next.{Next}
@@ -36,6 +37,7 @@ pub record IsMade (old : Telling) (moves_now : List Move) (cursors_now : List Cu
   pub record_is : m.record.0 ≡ place
   pub first_is : m.first.0 ≡ next.first
   pub end_is : m.end.0 ≡ end.told
+  pub at_is : m.at ≡ time_of (event_of next.entry next.values.now)
 
 module _ (records : List RecordValue) (old : Telling) (moves_now : List Move) (cursors_now : List CursorValue)
     (now : Ledger) (place : ℕ) (next : Next) (end : CursorValue) (noted : Ledger) (m : Move)
@@ -80,6 +82,10 @@ module _ (records : List RecordValue) (old : Telling) (moves_now : List Move) (c
       trace = trace;
       is_there = ap (slice_get records) made.record_is ∙ is_there;
       transition = subst IsTransition (sym events_are) (made.begun, made.acts.none_begins);
+      at =
+          made.at_is
+          ∙ sym (began-begins trace told_of.at.first (event_of next.entry next.values.now) (made.acts.acts ++ end.left)
+          m.first.0 all_of first_at made.begun);
     }
 
     done_is : done_in records m ≡ map (did next.number) ((event_of next.entry next.values.now) ∷ made.acts.acts)

@@ -1,5 +1,5 @@
 -- The moves of a timeline, and what is done in them.
-use Rattle.std.specs.Prelude.{◌≡◌, ℕ, ◌==◌, ◌≤◌, true, false, List, [], ◌∷◌, length, map, Option, None, Some, slice_get, slice_range, if◌then◌else◌}
+use Rattle.std.specs.Prelude.{◌≡◌, ℕ, ◌+◌, ◌==◌, ◌≤◌, true, false, List, [], ◌∷◌, length, map, take, Option, None, Some, slice_get, slice_range, if◌then◌else◌}
 use Rattle.std.specs.List.{filter, flat_map, AllByRecursion}
 use Rattle.std.specs.Option.{option_map_or}
 use Rattle.run_record.specs.Event as event
@@ -26,11 +26,33 @@ abbrev pub IsTransition : List event.Event → Type 0
 IsTransition [] = ⊥
 IsTransition (first ∷ rest) = (begins first ≡ true) × AllByRecursion (λ (one : event.Event). begins one ≡ false) rest
 
+-- a part of one: a transition may begin with the first of these events, and with no other
+abbrev pub IsOfOne : List event.Event → Type 0
+IsOfOne [] = ⊥
+IsOfOne (first ∷ rest) = AllByRecursion (λ (one : event.Event). begins one ≡ false) rest
+
+-- when the last of the transitions began that begin among these events, if the one before them began then
+abbrev pub began : Option ℕ → List event.Event → Option ℕ
+began before [] = before
+began before (event ∷ more) = began (if begins event then time_of event else before) more
+
+-- when the transition began of which the event at this place of a record is one
+abbrev pub began_at : RecordValue → ℕ → Option ℕ
+began_at trace place = began None (take (place + 1) trace.events)
+
 -- a move is a transition of one of the records
 pub record IsMove (records : List RecordValue) (move : Move) : Type 0 where
   pub trace : RecordValue
   pub is_there : slice_get records move.record.0 ≡ Some trace
   pub transition : IsTransition (events_in trace move)
+  pub at : move.at ≡ began_at trace move.first.0
+
+-- or a part of one
+pub record IsPart (records : List RecordValue) (move : Move) : Type 0 where
+  pub trace : RecordValue
+  pub is_there : slice_get records move.record.0 ≡ Some trace
+  pub of_one : IsOfOne (events_in trace move)
+  pub at : move.at ≡ began_at trace move.first.0
 
 -- the moves of the record at this place, in their order
 abbrev pub moves_of : ℕ → List Move → List Move

@@ -21,6 +21,8 @@ mod untold;
 
 pub use channel::Channel;
 pub use cursor::{Cursor, Next};
+pub use entries::{begins, looked_up, time_of};
 pub use moves::{ArrowId, EntryId, Link, Move, RecordId, Timeline};
 pub use replay::timeline;
+pub use traffic::Traffic;
 pub use untold::Untold;

@@ -1,6 +1,7 @@
 //! One order of all that was done.
 
 use indexmap::IndexSet;
+use port_values::Ticks;
 
 /// A record of a report, by its place among them, from 0.
 #[derive(Clone, Copy, PartialEq, Eq)]
@@ -18,13 +19,15 @@ pub struct EventId(pub u32);
 #[derive(Clone, Copy, PartialEq, Eq)]
 pub struct ArrowId(pub u32);
 
-/// A transition of an instance, or the rest or the cut with which its record closes: the entries of a record from
-/// `first` up to `end`, without that.
+/// A transition of an instance or a part of one, or the rest or the cut with which its record closes: the entries of a
+/// record from `first` up to `end`, without that. A part that doesn't begin its transition goes on with it.
 #[derive(Clone, Copy, PartialEq, Eq)]
 pub struct Move {
     pub record: RecordId,
     pub first: EntryId,
     pub end: EntryId,
+    /// When its transition began. A record closes at no time.
+    pub at: Option<Ticks>,
 }
 
 /// What an event has to do with another one.

@@ -185,10 +185,12 @@ impl<'r> Telling<'r> {
             return Ok(false);
         }
         let end = act(alloc, &mut self.traffic, rest)?;
+        let at = time_of(&entry);
         self.moves.push(Move {
             record: place,
             first: EntryId(first),
             end: EntryId(end.told()),
+            at,
         })?;
         self.cursors[place.0 as usize] = end;
         Ok(true)

@@ -86,6 +86,7 @@ returns c =
       «record» = c.args.place;
       first = record { 0 = next.first };
       end = record { 0 = c.told.result };
+      at = c.time_of-at.result;
     } in
     let made : IsMade old moves cursors now c.args.place.0 next end noted m = record {
       begun = sym (c.if-not-begins.ensures next.values.now);
@@ -97,6 +98,7 @@ returns c =
       record_is = refl;
       first_is = refl;
       end_is = c.told.ensures;
+      at_is = c.time_of-at.ensures next.values.now;
     } in
     record {
       keeps = λ records keeps.
