@@ -2,6 +2,7 @@
 use Rattle.std.specs.Prelude.{ℕ, List, [], ◌∷◌, ◌++◌, codes}
 use Rattle.std.specs.Fmt.{decimal}
 use Rattle.std.specs.List.{flat_map}
+use Rattle.std.specs.Option.{unwrap_or}
 use Rattle.port_values.specs.declared.item.SignalId.{SignalId}
 use Rattle.port_values.specs.declared.value.Value.{Value}
 use Rattle.run_record.specs.Event as event
@@ -38,12 +39,13 @@ outputs_in system who now [] = []
 outputs_in system who now (event ∷ more) =
     sent_text system (time_after now event) who event ++ outputs_in system who (time_after now event) more
 
+-- the line of an event of a timeline, if that is an output to the environment: its time is when its transition began
+abbrev pub step_text : SystemValue → StepValue → List ℕ
+step_text system step = sent_text system (unwrap_or step.at 0) step.trace.pid step.event
+
 -- the lines of these events of a timeline
-abbrev pub outputs_of : SystemValue → ℕ → List StepValue → List ℕ
-outputs_of system now [] = []
-outputs_of system now (step ∷ more) =
-    sent_text system (time_after now step.event) step.trace.pid step.event
-    ++ outputs_of system (time_after now step.event) more
+abbrev pub outputs_of : SystemValue → List StepValue → List ℕ
+outputs_of system steps = flat_map (step_text system) steps
 
 -- the lines of what each of these instances sends, by itself
 abbrev pub outputs_by_sender : SystemValue → List RecordValue → List ℕ

@@ -2,7 +2,7 @@
 
 ghost use Rattle.std.specs.Prelude.{◌≡◌, ℕ, List, [], ◌++◌, IfOk, OnOk};
 ghost use Rattle.std.specs.List.{AllByRecursion};
-ghost use Rattle.std.specs.Option.{option_map_or};
+ghost use Rattle.std.specs.Option.{option_map_or, unwrap_or};
 ghost use Rattle.std.specs.String.{string_bytes};
 ghost use Rattle.port_values.specs.declared.item.SignalId.{SignalId};
 ghost use Rattle.port_values.specs.declared.value.Value.{Value};
@@ -10,10 +10,10 @@ ghost use Rattle.run_record.specs.Entry.{event_of};
 ghost use Rattle.sdl_expected.specs.Outputs.{output_line, outputs_by_sender, outputs_in, outputs_of, sent_text, time_after};
 ghost use Rattle.sdl_system.specs.System.{SystemValue};
 ghost use Rattle.view_steps.specs.Walk.{all_steps};
-ghost use Rattle.view_timeline.specs.Moves.{IsMove};
+ghost use Rattle.view_timeline.specs.Moves.{IsPart};
 ghost use Rattle.view_timeline.specs.Timeline.{AreBegun};
 
-use port_values::{SignalId, Value};
+use port_values::{SignalId, Ticks, Value};
 use run_record::{Entry, Record, Report};
 use sdl_report::push_signal;
 use sdl_system::{System, Target};
@@ -29,19 +29,18 @@ pub fn outputs(
     told: &Timeline,
     system: &System,
 ) -> Result<String, AllocError>
-    requires transitions { AllByRecursion (IsMove report.now.records.items) told.now.moves.items }
+    requires parts { AllByRecursion (IsPart report.now.records.items) told.now.moves.items }
     requires begun { AreBegun report.now.records.items told.now }
     ensures { IfOk result (λ text. string_bytes text
-        ≡ outputs_of system.now 0 (all_steps report.now.records.items told.now)) }
+        ≡ outputs_of system.now (all_steps report.now.records.items told.now)) }
 {
     let mut text = String::new(alloc);
     let mut walk = Walk::new(alloc, report, told)?;
-    let mut now = 0;
     while let Some(step) = walk.next() {
-        now = time_after(now, step.entry);
+        let began = time_or_first(step.at);
         push_sent(
             &mut text,
-            now,
+            began,
             step.record.pid(),
             step.entry,
             step.values,
@@ -80,6 +79,16 @@ fn push_outputs(text: &mut String, record: &Record, system: &System) -> Result<(
         cursor = next.rest;
     }
     Ok(())
+}
+
+/// When a transition began. A record closes at no time, and sends nothing then.
+fn time_or_first(at: Option<Ticks>) -> u64
+    ensures { result ≡ unwrap_or at 0 }
+{
+    match at {
+        Some(at) => at.get(),
+        None => 0,
+    }
 }
 
 /// The time after an event: one with which a transition begins has its own.

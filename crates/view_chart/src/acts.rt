@@ -207,6 +207,9 @@ impl<'r> Layout<'r> {
 
 /// Whether a move is a start that only enters a state.
 fn is_mere_start(passage: &Passage) -> bool {
+    if passage.goes_on() {
+        return false;
+    }
     passage.events().all(|told| {
         matches!(
             told.entry,

@@ -69,7 +69,7 @@ pub struct TimeLine {
     pub at: Ticks,
 }
 
-/// A transition, from its first row to its last one.
+/// A transition or a part of one, from its first row to its last one.
 #[derive(Drop)]
 pub struct Bar {
     pub column: ColumnId,

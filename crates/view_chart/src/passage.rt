@@ -4,13 +4,15 @@ use port_values::Ticks;
 use run_record::{Entry, Reader, Record, Report};
 use std::alloc::{AllocError, Global};
 use std::iter::Take;
-use view_timeline::{Link, Move, Timeline};
+use view_timeline::{Link, Move, Timeline, begins};
 
 /// A move of an instance: its events, and the link of each.
 #[derive(Drop)]
 pub struct Passage<'r> {
     pub record: &'r Record,
     pub links: &'r [Link],
+    /// When its transition began: how a record closes has no time.
+    pub at: Option<Ticks>,
     /// From its first event on.
     reader: Reader<'r>,
 }
@@ -27,16 +29,11 @@ impl<'r> Passage<'r> {
         Some(events.next()?.entry)
     }
 
-    /// When it begins: how a record closes has no time.
-    pub fn at(&self) -> Option<Ticks> {
-        match self.first()? {
-            Entry::Start { at }
-            | Entry::Consumed { at, .. }
-            | Entry::Prior { at, .. }
-            | Entry::Discarded { at, .. }
-            | Entry::Provided { at, .. }
-            | Entry::FailedAt { at, .. } => Some(Ticks::new(at)),
-            _ => None,
+    /// Whether a transition goes on with it, once others were told.
+    pub fn goes_on(&self) -> bool {
+        match self.first() {
+            Some(first) => !begins(&first),
+            None => false,
         }
     }
 }
@@ -86,6 +83,7 @@ impl<'r> MoveWalk<'r> {
         Some(Passage {
             record,
             links: own,
+            at: next.at,
             reader,
         })
     }

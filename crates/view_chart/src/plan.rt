@@ -95,7 +95,7 @@ fn acting(
 
 /// Whether a move is made at a time that is wanted.
 pub fn is_wanted(passage: &Passage, selection: &Selection) -> bool {
-    match passage.at() {
+    match passage.at {
         Some(at) => selection.has_time(at),
         None => false,
     }

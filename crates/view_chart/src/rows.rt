@@ -103,7 +103,7 @@ impl<'r> Layout<'r> {
         let Some(column) = self.plan.column_of_record(passage.record) else {
             return Ok(());
         };
-        let Some(at) = passage.at() else {
+        let Some(at) = passage.at else {
             self.close(column, passage);
             return Ok(());
         };
@@ -140,7 +140,7 @@ impl<'r> Layout<'r> {
         Ok(())
     }
 
-    /// Draws a transition: its bar, and what happens at it.
+    /// Draws a transition or a part of one: its bar, and what happens at it.
     fn transition(
         &mut self,
         column: ColumnId,

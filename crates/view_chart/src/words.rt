@@ -55,7 +55,7 @@ pub fn push_instance(text: &mut String, system: &System, record: &Record) -> Res
     write!(text, " #{number}")
 }
 
-/// The lines of a move in the trace, below the name of the instance.
+/// The lines of a move in the trace, below the name of the instance. A part with which a transition goes on says so.
 pub fn lines_of(
     alloc: Global,
     system: &System,
@@ -64,6 +64,9 @@ pub fn lines_of(
     let record = passage.record;
     let mut text = String::new(alloc);
     push_instance(&mut text, system, record)?;
+    if passage.goes_on() {
+        text.push_str("\ngoes on")?;
+    }
     for told in passage.events() {
         text.push('\n')?;
         push_event(&mut text, &told.entry, told.values, record, system)?;

@@ -1,5 +1,5 @@
--- A timeline as JSON Lines: an object for each transition, and one for the end.
-use Rattle.std.specs.Prelude.{ℕ, ◌-◌, ◌==◌, ◌∷◌, ◌++◌, Bool, true, false, List, [], Option, None, Some, codes, length, slice_get, if◌then◌else◌}
+-- A timeline as JSON Lines: an object for each transition or part of one, and one for the end.
+use Rattle.std.specs.Prelude.{ℕ, ◌-◌, ◌∷◌, ◌++◌, Bool, true, false, List, [], Option, None, Some, codes, length, slice_get, if◌then◌else◌}
 use Rattle.std.specs.List.{flat_map}
 use Rattle.std.specs.Fmt.{decimal}
 use Rattle.port_model.specs.Take.{name_of}
@@ -22,7 +22,8 @@ use Rattle.view_steps.specs.Fate.{fate_of}
 use Rattle.view_steps.specs.Lost.{lost_fate}
 use Rattle.view_steps.specs.Occurrences.{occurrence_text, occurrences}
 use Rattle.view_steps.specs.Sending.{SendingValue}
-use Rattle.view_steps.specs.Walk.{StepValue}
+use Rattle.view_steps.specs.Walk.{StepValue, goes_on}
+use Rattle.view_timeline.specs.Did.{begins}
 use Rattle.view_timeline.specs.declared.moves.Link.{Link}
 use Rattle.view_timeline.specs.declared.moves.Timeline.{Timeline}
 
@@ -101,23 +102,30 @@ is_closing (event.Rest state) = true
 is_closing (event.Cut state) = true
 is_closing _ = false
 
--- the comma before what a transition does, except before the first of that
-abbrev pub comma : ℕ → List ℕ
-comma place = if place == 1 then [] else codes ","
+-- the list of what it does begins
+abbrev pub does_json : List ℕ
+does_json = key (codes "does") ++ codes "["
 
--- A transition is a line: how it begins, and in `does` what it does.
+-- An object opens with which a transition goes on that began then, once others were told.
+abbrev pub going_json : SystemValue → RecordValue → Option ℕ → List ℕ
+going_json system trace None = []
+going_json system trace (Some at) = by_json system trace at (codes "goes on") ++ does_json
+
+-- A transition is a line, or some of them if it is told in parts: how it begins or that it goes on, and in `does` what
+-- it does.
 abbrev pub part_json : SystemValue → Timeline → StepValue → List ℕ
 part_json system told step =
-    if step.place == 0 then opening system step.trace step.event step.link ++ key (codes "does") ++ codes "["
-    else comma step.place ++ deed_json system told step.trace step.event step.link
+    if begins step.event then opening system step.trace step.event step.link ++ does_json
+    else going_json system step.trace (goes_on step) ++ deed_json system told step.trace step.event step.link
 
-abbrev pub end_of_line : Bool → List ℕ
-end_of_line true = line (codes "]}")
-end_of_line false = []
+-- what follows an event: the line ends, or there is a comma before what is done next
+abbrev pub after_json : Bool → Bool → List ℕ
+after_json closes opens = if closes then line (codes "]}") else if opens then [] else codes ","
 
 abbrev pub step_json : SystemValue → Timeline → StepValue → List ℕ
 step_json system told step =
-    if is_closing step.event then [] else part_json system told step ++ end_of_line step.closes
+    if is_closing step.event then []
+    else part_json system told step ++ after_json step.closes (begins step.event)
 
 -- A signal of the script that nobody took: when it's sent, to whom, and what became of it.
 abbrev pub lost_json : SystemValue → Timeline → SendingValue → List ℕ
@@ -167,7 +175,7 @@ abbrev pub stuck_json : Option ℕ → List ℕ
 stuck_json None = []
 stuck_json (Some number) = line (object (codes "stuck") (decimal number))
 
--- a line for each transition in the order of the timeline, and for each signal of the script that is lost, one for the
+-- a line for each transition or part of one in the order of the timeline, and for each signal of the script that is lost, one for the
 -- end of the run, and one more if the order ends before that
 abbrev pub json_text : SystemValue → Report → Timeline → Option ℕ → List SendingValue → List ℕ
 json_text system report told stuck lost =

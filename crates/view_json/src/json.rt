@@ -7,26 +7,26 @@ ghost use Rattle.std.specs.Io.KnownBytes.{Appends};
 ghost use Rattle.port_values.specs.Value.{ValueList};
 ghost use Rattle.run_record.specs.Entry.{event_of};
 ghost use Rattle.sdl_report.specs.Gathered.{BreaksOff};
-ghost use Rattle.view_json.specs.JsonText.{comma, end_of_line, is_closing, json_text, part_json};
+ghost use Rattle.view_json.specs.JsonText.{after_json, is_closing, json_text, part_json};
 ghost use Rattle.view_steps.specs.Sending.{sending_value};
 ghost use Rattle.view_steps.specs.Step.{step_value};
-ghost use Rattle.view_timeline.specs.Moves.{IsMove};
+ghost use Rattle.view_timeline.specs.Moves.{IsPart};
 ghost use Rattle.view_timeline.specs.Timeline.{AreBegun};
 
 use crate::closing::{push_end, push_stuck};
 use crate::deed::push_deed;
 use crate::lost::push_lost;
-use crate::opening::push_opening;
+use crate::opening::{push_does, push_going, push_opening};
 use run_record::{Entry, Report};
 use sdl_report::WriteFault;
 use sdl_system::System;
 use std::alloc::{AllocError, Global};
 use std::io::Write;
 use view_steps::{Sending, Step, TimelineText, write_timeline};
-use view_timeline::Timeline;
+use view_timeline::{Timeline, begins};
 
-/// Writes a timeline of a report as JSON Lines: a line for each transition in its order, and in its place one for each
-/// signal of the script that is lost, one for the end, and one more if an instance is stuck in it.
+/// Writes a timeline of a report as JSON Lines: a line for each transition or part of one in its order, and in its place
+/// one for each signal of the script that is lost, one for the end, and one more if an instance is stuck in it.
 pub fn write_json<W: Write>(
     alloc: Global,
     report: &Report,
@@ -36,7 +36,7 @@ pub fn write_json<W: Write>(
     system: &System,
     writer: &mut W,
 ) -> Result<(), WriteFault>
-    requires transitions { AllByRecursion (IsMove report.now.records.items) told.now.moves.items }
+    requires parts { AllByRecursion (IsPart report.now.records.items) told.now.moves.items }
     requires begun { AreBegun report.now.records.items told.now }
     ensures ok { OnOk result (Appends (W.contents writer.old) (W.contents writer.new)
         (json_text system.now report.now told.now stuck (map sending_value lost.now))) }
@@ -80,13 +80,13 @@ impl TimelineText for Json<'_> {
         Ok(())
     }
 
-    /// Appends what an event adds to the object of its transition, and ends the line if the transition ends.
+    /// Appends what an event adds to the object of its transition, and ends the line if what is told of it ends.
     fn push_step(&self, text: &mut String, step: &Step<'_>) -> Result<(), AllocError> {
         if is_closing(&step.entry) {
             return Ok(());
         }
         push_part(text, step, self.told, self.system)?;
-        push_end_of_line(text, step.closes)
+        push_after(text, step.closes, begins(&step.entry))
     }
 
     /// Appends the line of a lost signal.
@@ -113,7 +113,7 @@ fn is_closing(entry: &Entry) -> bool
     }
 }
 
-/// Appends how the object opens, or what the transition does.
+/// Appends how the object opens, and what the transition does.
 fn push_part(
     text: &mut String,
     step: &Step<'_>,
@@ -123,28 +123,23 @@ fn push_part(
     ensures { OnOk result (string_bytes text.new ≡ string_bytes text.old
         ++ part_json system.now told.now (step_value step.now)) }
 {
-    if step.place == 0 {
+    if begins(&step.entry) {
         push_opening(text, step, system)?;
-        return text.push_str(",\"does\":[");
+        return push_does(text);
     }
-    push_comma(text, step.place)?;
+    push_going(text, step.goes_on(), step.record, system)?;
     push_deed(text, step, told, system)
 }
 
-fn push_comma(text: &mut String, place: u32) -> Result<(), AllocError>
-    ensures { OnOk result (string_bytes text.new ≡ string_bytes text.old ++ comma place) }
-{
-    if place == 1 {
-        return Ok(());
-    }
-    text.push(',')
-}
-
-fn push_end_of_line(text: &mut String, closes: bool) -> Result<(), AllocError>
-    ensures { OnOk result (string_bytes text.new ≡ string_bytes text.old ++ end_of_line closes) }
+/// Appends what follows an event: the end of the line, or a comma before what is done next.
+fn push_after(text: &mut String, closes: bool, opens: bool) -> Result<(), AllocError>
+    ensures { OnOk result (string_bytes text.new ≡ string_bytes text.old ++ after_json closes opens) }
 {
     if closes {
         return text.push_str("]}\n");
     }
-    Ok(())
+    if opens {
+        return Ok(());
+    }
+    text.push(',')
 }

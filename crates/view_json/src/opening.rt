@@ -3,7 +3,7 @@
 ghost use Rattle.std.specs.Prelude.{◌≡◌, ◌++◌, codes, OnOk};
 ghost use Rattle.std.specs.String.{string_bytes};
 ghost use Rattle.run_record.specs.Entry.{event_of, got_of};
-ghost use Rattle.view_json.specs.JsonText.{by_json, got_json, message_json, opening, taken_json, when_json};
+ghost use Rattle.view_json.specs.JsonText.{by_json, does_json, going_json, got_json, message_json, opening, taken_json, when_json};
 ghost use Rattle.view_json.specs.JsonValue.{arrow_json, key, pid_json};
 
 use crate::pieces::{push_arrow, push_count, push_key, push_pid, push_text, push_values};
@@ -35,6 +35,31 @@ pub fn push_opening(text: &mut String, step: &Step<'_>, system: &System) -> Resu
         }
         _ => Ok(()),
     }
+}
+
+/// Appends how an object opens with which a transition goes on that began at this time, if one does.
+pub fn push_going(
+    text: &mut String,
+    began: Option<u64>,
+    record: &Record,
+    system: &System,
+) -> Result<(), AllocError>
+    ensures { OnOk result (string_bytes text.new ≡ string_bytes text.old
+        ++ going_json system.now «record».now began) }
+{
+    let Some(at) = began else {
+        return Ok(());
+    };
+    push_by(text, at, "goes on", record, system)?;
+    push_does(text)
+}
+
+/// Appends that what is done follows.
+pub fn push_does(text: &mut String) -> Result<(), AllocError>
+    ensures { OnOk result (string_bytes text.new ≡ string_bytes text.old ++ does_json) }
+{
+    push_key(text, "does")?;
+    text.push('[')
 }
 
 /// Appends `{"at":7,"instance":1,"process":"P"`.

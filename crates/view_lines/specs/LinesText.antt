@@ -17,7 +17,7 @@ use Rattle.view_steps.specs.Fate.{fate_of, fate_word}
 use Rattle.view_steps.specs.Lost.{lost_fate}
 use Rattle.view_steps.specs.Occurrences.{occurrence_text, occurrences}
 use Rattle.view_steps.specs.Sending.{SendingValue}
-use Rattle.view_steps.specs.Walk.{StepValue}
+use Rattle.view_steps.specs.Walk.{StepValue, goes_on}
 use Rattle.view_steps.specs.declared.fate.Fate.{Fate}
 use Rattle.view_timeline.specs.declared.moves.Link.{Link}
 use Rattle.view_timeline.specs.declared.moves.Timeline.{Timeline}
@@ -56,8 +56,15 @@ linked_text system told trace (event.Output signal to values target) link =
     event_text system trace (event.Output signal to values target) ++ fate_text (fate_of told target link)
 linked_text system told trace other link = event_text system trace other
 
+-- the line with which a transition goes on, once others were told: when it began, and whose it is
+abbrev pub going_line : SystemValue → RecordValue → Option ℕ → List ℕ
+going_line system trace None = []
+going_line system trace (Some at) = line (when_text system trace at ++ codes " goes on")
+
+-- the line of an event; before that of the first one of a part with which a transition goes on, who goes on
 abbrev pub step_line : SystemValue → Timeline → StepValue → List ℕ
-step_line system told step = line (linked_text system told step.trace step.event step.link)
+step_line system told step =
+    going_line system step.trace (goes_on step) ++ line (linked_text system told step.trace step.event step.link)
 
 -- The line of a signal of the script that nobody took: when it's sent, to whom, and what became of it.
 abbrev pub lost_line : SystemValue → Timeline → SendingValue → List ℕ

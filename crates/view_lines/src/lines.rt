@@ -6,7 +6,7 @@ ghost use Rattle.std.specs.Io.KnownBytes.{Appends};
 ghost use Rattle.sdl_report.specs.Gathered.{BreaksOff};
 ghost use Rattle.view_lines.specs.LinesText.{lines_text};
 ghost use Rattle.view_steps.specs.Sending.{sending_value};
-ghost use Rattle.view_timeline.specs.Moves.{IsMove};
+ghost use Rattle.view_timeline.specs.Moves.{IsPart};
 ghost use Rattle.view_timeline.specs.Timeline.{AreBegun};
 
 use crate::order::push_order;
@@ -33,7 +33,7 @@ pub fn write_lines<W: Write>(
     system: &System,
     writer: &mut W,
 ) -> Result<(), WriteFault>
-    requires transitions { AllByRecursion (IsMove report.now.records.items) told.now.moves.items }
+    requires parts { AllByRecursion (IsPart report.now.records.items) told.now.moves.items }
     requires begun { AreBegun report.now.records.items told.now }
     ensures ok { OnOk result (Appends (W.contents writer.old) (W.contents writer.new)
         (lines_text system.now report.now told.now stuck sent (map sending_value lost.now))) }

@@ -4,7 +4,7 @@ ghost use Rattle.std.specs.Prelude.{◌≡◌, ◌++◌, codes, OnOk};
 ghost use Rattle.std.specs.String.{string_bytes};
 ghost use Rattle.run_record.specs.Entry.{event_of, got_of};
 ghost use Rattle.sdl_report.specs.ReportText.{event_text, line, signal_text, stimulus_text, target_text};
-ghost use Rattle.view_lines.specs.LinesText.{fate_text, instance_text, lost_line, step_line, when_text};
+ghost use Rattle.view_lines.specs.LinesText.{fate_text, going_line, instance_text, linked_text, lost_line, step_line, when_text};
 ghost use Rattle.view_steps.specs.Sending.{sending_value};
 ghost use Rattle.view_steps.specs.Step.{step_value};
 
@@ -16,7 +16,7 @@ use std::alloc::AllocError;
 use view_steps::{Fate, Sending, Step, fate_of, lost_fate};
 use view_timeline::Timeline;
 
-/// Appends the line of an event of a timeline.
+/// Appends the line of an event of a timeline, and before it who goes on, if a transition goes on with it.
 pub fn push_step_line(
     text: &mut String,
     step: &Step<'_>,
@@ -25,6 +25,38 @@ pub fn push_step_line(
 ) -> Result<(), AllocError>
     ensures { OnOk result (string_bytes text.new ≡ string_bytes text.old
         ++ step_line system.now told.now (step_value step.now)) }
+{
+    push_going(text, step.goes_on(), step.record, system)?;
+    push_event_line(text, step, told, system)
+}
+
+/// Appends `5 #2 Initiator goes on`, if a transition does that began at this time.
+fn push_going(
+    text: &mut String,
+    began: Option<u64>,
+    record: &Record,
+    system: &System,
+) -> Result<(), AllocError>
+    ensures { OnOk result (string_bytes text.new ≡ string_bytes text.old
+        ++ going_line system.now «record».now began) }
+{
+    let Some(at) = began else {
+        return Ok(());
+    };
+    push_when(text, at, record, system)?;
+    text.push_str(" goes on\n")
+}
+
+/// Appends the line of an event.
+fn push_event_line(
+    text: &mut String,
+    step: &Step<'_>,
+    told: &Timeline,
+    system: &System,
+) -> Result<(), AllocError>
+    ensures { OnOk result (string_bytes text.new ≡ string_bytes text.old
+        ++ line (linked_text system.now told.now step.now.«record».now
+        (event_of step.now.entry step.now.values.now) step.now.link)) }
 {
     let record = step.record;
     match &step.entry {

@@ -9,7 +9,7 @@ ghost use Rattle.sdl_report.specs.ReportText.{end_text};
 ghost use Rattle.view_msc.specs.MscText.{declared_text, instances_text, line_begin, msc_text, next_text, order_text};
 ghost use Rattle.view_steps.specs.Sending.{sending_value};
 ghost use Rattle.view_steps.specs.Step.{step_value};
-ghost use Rattle.view_timeline.specs.Moves.{IsMove};
+ghost use Rattle.view_timeline.specs.Moves.{IsPart};
 ghost use Rattle.view_timeline.specs.Timeline.{AreBegun};
 
 use crate::event_text::push_event_text;
@@ -24,7 +24,8 @@ use view_steps::{Sending, Step, TimelineText, write_timeline};
 use view_timeline::Timeline;
 
 /// Writes a timeline of a report as text of Z.120, in its event-oriented form: the chart has this name, then come the
-/// instances, a line for each move and each lost signal of the script, and the end, which says if an instance is stuck.
+/// instances, a line for each move, which may be a part of a transition, and for each lost signal of the script, and the
+/// end, which says if an instance is stuck.
 /// A name that is a keyword of Z.120 has a `_` after it.
 pub fn write_msc<W: Write>(
     alloc: Global,
@@ -36,7 +37,7 @@ pub fn write_msc<W: Write>(
     report: &Report,
     writer: &mut W,
 ) -> Result<(), WriteFault>
-    requires transitions { AllByRecursion (IsMove report.now.records.items) told.now.moves.items }
+    requires parts { AllByRecursion (IsPart report.now.records.items) told.now.moves.items }
     requires begun { AreBegun report.now.records.items told.now }
     ensures ok { OnOk result (Appends (W.contents writer.old) (W.contents writer.new)
         (msc_text name.now system.now told.now stuck (map sending_value lost.now) report.now)) }

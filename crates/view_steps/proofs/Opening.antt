@@ -1,5 +1,5 @@
 -- A walk before its moves.
-use Rattle.std.proofs.Common.{◌≡◌, ℕ, zero, suc, ◌-◌, ◌<◌, ◌≤◌, ◌==◌, Bool, true, false, List, [], ◌∷◌, ◌++◌, length, map, take, drop, slice_get, Some, refl, sym, ◌∙◌, ap, subst, arith, if◌then◌else◌}
+use Rattle.std.proofs.Common.{◌≡◌, ℕ, zero, suc, ◌-◌, ◌<◌, ◌≤◌, ◌==◌, Bool, true, false, List, [], ◌∷◌, ◌++◌, length, map, take, drop, slice_get, Option, Some, refl, sym, ◌∙◌, ap, subst, arith, if◌then◌else◌}
 use Rattle.std.specs.List.{AllByRecursion}
 use Rattle.std.specs.Option.{option_map_or}
 use Rattle.std.proofs.lemmas.Bool.{eq-eqb, eqb-true}
@@ -7,7 +7,7 @@ use Rattle.std.proofs.lemmas.List.{length-map, take_all}
 use Rattle.run_record.specs.Event.{Event}
 use Rattle.run_record.specs.Record.{RecordValue}
 use Rattle.view_timeline.specs.Cursor.{CursorValue}
-use Rattle.view_timeline.specs.Moves.{EachOnce, GoOn, IsMove, IsTransition, events_in, moves_of}
+use Rattle.view_timeline.specs.Moves.{EachOnce, GoOn, IsOfOne, IsPart, events_in, moves_of}
 use Rattle.view_timeline.specs.Telling.{IsAt}
 use Rattle.view_timeline.specs.Timeline.{AreBegun, IsBegun}
 use Rattle.view_timeline.specs.declared.moves.Link.{Link}
@@ -18,16 +18,17 @@ use Rattle.view_steps.proofs.Ranges.{get-both, map_or-same, range-within}
 
 -- ---- without links
 
-in-none : (trace : RecordValue) (place : ℕ) (events : List Event) → steps_in trace place events [] ≡ []
-in-none trace place [] = refl
-in-none trace place (event ∷ more) = refl
+in-none : (trace : RecordValue) (at : Option ℕ) (place : ℕ) (events : List Event)
+    → steps_in trace at place events [] ≡ []
+in-none trace at place [] = refl
+in-none trace at place (event ∷ more) = refl
 
 links-none : (n : ℕ) → ◌≡◌ {A = List Link} (drop n []) []
 links-none zero = refl
 links-none (suc n) = refl
 
 abbrev first-none : Move → RecordValue → List StepValue
-first-none move trace = steps_in trace 0 (events_in trace move) []
+first-none move trace = steps_in trace move.at 0 (events_in trace move) []
 
 abbrev after-none : Move → RecordValue → List Link
 after-none move trace = drop (length (events_in trace move)) []
@@ -36,7 +37,7 @@ steps-none : (records : List RecordValue) (moves : List Move) → steps records 
 steps-none records [] = refl
 steps-none records (move ∷ moves) =
     let first : option_map_or (first-none move) (slice_get records move.record.0) [] ≡ [] =
-    map_or-same (first-none move) [] (λ trace. in-none trace 0 (events_in trace move))
+    map_or-same (first-none move) [] (λ trace. in-none trace move.at 0 (events_in trace move))
     (slice_get records move.record.0) in
     let after : option_map_or (after-none move) (slice_get records move.record.0) [] ≡ [] =
     map_or-same (after-none move) [] (λ trace. links-none (length (events_in trace move)))
@@ -56,7 +57,7 @@ left-none records cursors (move ∷ moves) =
   where
     none : (trace : RecordValue) (passed : ℕ) → left_from records move moves [] trace passed ≡ []
     none trace passed =
-        let first = in-none trace (passed - move.first.0) (left_in trace passed move) in
+        let first = in-none trace move.at (passed - move.first.0) (left_in trace passed move) in
         let after = links-none (length (left_in trace passed move)) in
         (λ i. first i ++ steps records moves (after i)) ∙ steps-none records moves
 
@@ -65,23 +66,23 @@ left-none records cursors (move ∷ moves) =
 pub same_itself : (n : ℕ) → (n == n) ≡ true
 same_itself n = eq-eqb n n refl
 
-transition-some : (events : List Event) → IsTransition events → 0 < length events
-transition-some [] none = absurd none
-transition-some (event ∷ more) all = omega arith
+part-some : (events : List Event) → IsOfOne events → 0 < length events
+part-some [] none = absurd none
+part-some (event ∷ more) all = omega arith
 
 -- a move has events of its record
-pub move-within : (records : List RecordValue) (move : Move) (trace : RecordValue) → IsMove records move
+pub move-within : (records : List RecordValue) (move : Move) (trace : RecordValue) → IsPart records move
     → slice_get records move.record.0 ≡ Some trace → (move.first.0 < move.end.0) × (move.first.0 < length trace.events)
 move-within records move trace is there =
     let same : Some is.trace ≡ Some trace = sym is.is_there ∙ there in
     let t : is.trace ≡ trace = cc in
     range-within trace.events move.first.0 move.end.0
-    (transition-some (events_in trace move)
-    (subst (λ (r : RecordValue). IsTransition (events_in r move)) t is.transition))
+    (part-some (events_in trace move)
+    (subst (λ (r : RecordValue). IsOfOne (events_in r move)) t is.of_one))
 
 -- where moves go on is within the record
 pub goes-within : (records : List RecordValue) (moves : List Move) (place passed : ℕ) (trace : RecordValue)
-    → AllByRecursion (IsMove records) moves → slice_get records place ≡ Some trace → (end : ℕ)
+    → AllByRecursion (IsPart records) moves → slice_get records place ≡ Some trace → (end : ℕ)
     → GoOn passed (moves_of place moves) end → end ≤ length trace.events → passed ≤ length trace.events
 goes-within records [] place passed trace all there end whole le =
     let same : passed ≡ end = whole in omega (arith, same, le)
@@ -128,7 +129,7 @@ pub record AreBefore (records : List RecordValue) (cursors : List CursorValue) (
   pub as_many : length cursors ≡ length records
   pub at : (place : ℕ) (trace : RecordValue) (cursor : CursorValue) → slice_get records place ≡ Some trace
       → slice_get cursors place ≡ Some cursor → IsAt trace cursor
-  pub are_moves : AllByRecursion (IsMove records) moves
+  pub are_parts : AllByRecursion (IsPart records) moves
   pub go_on : (place : ℕ) (trace : RecordValue) (cursor : CursorValue) → slice_get records place ≡ Some trace
       → slice_get cursors place ≡ Some cursor → GoesOn place cursor.told trace moves
 
@@ -144,10 +145,10 @@ module _ (records : List RecordValue) (cursors : List CursorValue) (move : Move)
       ∙ ap (λ o. option_map_or (λ (c : CursorValue). left_from records move moves links trace c.told) o []) is
 
   pub steps-at : steps records (move ∷ moves) links
-      ≡ steps_in trace 0 (events_in trace move) links
+      ≡ steps_in trace move.at 0 (events_in trace move) links
       ++ steps records moves (drop (length (events_in trace move)) links)
   steps-at =
-      ap (λ o. option_map_or (λ (t : RecordValue). steps_in t 0 (events_in t move) links) o []
+      ap (λ o. option_map_or (λ (t : RecordValue). steps_in t move.at 0 (events_in t move) links) o []
       ++ steps records moves (option_map_or (λ (t : RecordValue). drop (length (events_in t move)) links) o links))
       there
 
@@ -156,14 +157,14 @@ module _ (records : List RecordValue) (cursors : List CursorValue) (move : Move)
   left-first passed first =
       let none : move.first.0 - move.first.0 ≡ 0 = omega arith in
       ap (λ n. left_from records move moves links trace n) (sym first)
-      ∙ ap (λ n. steps_in trace n (events_in trace move) links
+      ∙ ap (λ n. steps_in trace move.at n (events_in trace move) links
       ++ steps records moves (drop (length (events_in trace move)) links)) none
       ∙ sym steps-at
 
 opened-in : (records : List RecordValue) (cursors : List CursorValue) (move : Move) (moves : List Move)
     → AreBefore records cursors (move ∷ moves) → IsIn records cursors move moves
 opened-in records cursors move moves before =
-    let own : IsMove records move = before.are_moves.0 in
+    let own : IsPart records move = before.are_parts.0 in
     let c = get-both records cursors (sym before.as_many) move.record.0 own.trace own.is_there in
     let goes = before.go_on move.record.0 own.trace c.0 own.is_there c.1 in
     let first : move.first.0 ≡ c.0.told = goes-first move moves c.0.told goes.end goes.whole in
@@ -172,8 +173,8 @@ opened-in records cursors move moves before =
     record {
       as_many = before.as_many;
       at = before.at;
-      is_move = own;
-      are_moves = before.are_moves.1;
+      is_part = own;
+      are_parts = before.are_parts.1;
       cursor = c.0;
       is_there = c.1;
       begun = omega (arith, first);
@@ -192,7 +193,7 @@ pub opened-left : (records : List RecordValue) (cursors : List CursorValue) (mov
     → AreBefore records cursors moves → left_of records cursors moves links ≡ steps records moves links
 opened-left records cursors [] links before = refl
 opened-left records cursors (move ∷ moves) links before =
-    let own : IsMove records move = before.are_moves.0 in
+    let own : IsPart records move = before.are_parts.0 in
     let c = get-both records cursors (sym before.as_many) move.record.0 own.trace own.is_there in
     let goes = before.go_on move.record.0 own.trace c.0 own.is_there c.1 in
     left-at records cursors move moves links own.trace own.is_there c.0 c.1
@@ -216,14 +217,14 @@ fresh-is : (records : List RecordValue) (place : ℕ) (trace : RecordValue) (cur
 fresh-is records place trace cursor there is =
     let e : Some (fresh trace) ≡ Some cursor = sym (get-map fresh records place trace there) ∙ is in cc
 
-pub before-all : (records : List RecordValue) (told : Timeline) → AllByRecursion (IsMove records) told.moves.items
+pub before-all : (records : List RecordValue) (told : Timeline) → AllByRecursion (IsPart records) told.moves.items
     → AreBegun records told → AreBefore records (map fresh records) told.moves.items
 before-all records told all begun = record {
   as_many = length-map records fresh;
   at = λ place trace cursor there is.
       subst (λ (c : CursorValue). IsAt trace c) (fresh-is records place trace cursor there is)
       (record { number = refl; first = []; all = refl; told = refl });
-  are_moves = all;
+  are_parts = all;
   go_on = λ place trace cursor there is.
       let b : IsBegun trace place told = begun place trace there in
       subst (λ (c : CursorValue). GoesOn place c.told trace told.moves.items)
@@ -237,7 +238,7 @@ pub fresh-all : (records items : List RecordValue) (cursors : List CursorValue) 
 fresh-all records items cursors n same past so_far =
     so_far ∙ ap (map fresh) (take_all n items past) ∙ ap (map fresh) same
 
-module _ (records : List RecordValue) (told : Timeline) (all : AllByRecursion (IsMove records) told.moves.items)
+module _ (records : List RecordValue) (told : Timeline) (all : AllByRecursion (IsPart records) told.moves.items)
     (begun : AreBegun records told) (rs : List RecordValue) (cs : List CursorValue) (ms : List Move)
     (rs_are : rs ≡ records) (cs_are : cs ≡ map fresh records) (ms_are : ms ≡ told.moves.items) where
   pub started : IsOnTheWay rs cs ms

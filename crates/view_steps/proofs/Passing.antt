@@ -20,11 +20,12 @@ none-some : (events : List Event) → 0 < length events → is_none events ≡ f
 none-some [] some = absurd (omega (arith, some))
 none-some (event ∷ more) some = refl
 
-abbrev pub step_of : RecordValue → Event → Link → ℕ → Bool → StepValue
-step_of trace event link place closes = record {
+abbrev pub step_of : RecordValue → Event → Link → Option ℕ → ℕ → Bool → StepValue
+step_of trace event link at place closes = record {
   trace = trace;
   event = event;
   link = link;
+  at = at;
   place = place;
   closes = closes;
 }
@@ -84,7 +85,7 @@ module _ (records : List RecordValue) (cursors : List CursorValue) (move : Move)
 
   end-within : move.end.0 ≤ length trace.events
   end-within =
-      goes-within records moves move.record.0 move.end.0 trace is_in.are_moves there go_own.end go_own.whole
+      goes-within records moves move.record.0 move.end.0 trace is_in.are_parts there go_own.end go_own.whole
       go_own.within
 
   -- an event is left
@@ -130,8 +131,8 @@ module _ (records : List RecordValue) (cursors : List CursorValue) (move : Move)
     inside lt = record {
       as_many = length-set cursors move.record.0 rest ∙ is_in.as_many;
       at = at-all;
-      is_move = is_in.is_move;
-      are_moves = is_in.are_moves;
+      is_part = is_in.is_part;
+      are_parts = is_in.are_parts;
       cursor = rest;
       is_there = get-set_same cursors move.record.0 cursor rest is;
       begun = let b : move.first.0 ≤ cursor.told = begun-at in omega (arith, b, passed);
@@ -148,7 +149,7 @@ module _ (records : List RecordValue) (cursors : List CursorValue) (move : Move)
     before-next end = record {
       as_many = length-set cursors move.record.0 rest ∙ is_in.as_many;
       at = at-all;
-      are_moves = is_in.are_moves;
+      are_parts = is_in.are_parts;
       go_on = goes-all (λ place other one. GoesOn place one.told other moves)
           records cursors move.record.0 trace cursor rest there is
           (subst (λ (n : ℕ). GoesOn move.record.0 n trace moves) (sym (passed ∙ end)) go_own)
@@ -165,17 +166,17 @@ module _ (records : List RecordValue) (cursors : List CursorValue) (move : Move)
         inside (apart-lt cursor.told move.end.0 goes-at (eqb-false (cursor.told + 1) move.end.0 (sym closes)))
 
     abbrev step : Link → Bool → StepValue
-    step link closes = step_of trace event link (cursor.told - move.first.0) closes
+    step link closes = step_of trace event link move.at (cursor.told - move.first.0) closes
 
     abbrev after : List Link → List Event → List StepValue
     after links es =
-        steps_in trace ((cursor.told - move.first.0) + 1) es links ++ steps records moves (drop (length es) links)
+        steps_in trace move.at ((cursor.told - move.first.0) + 1) es links ++ steps records moves (drop (length es) links)
 
     one : (link : Link) (links : List Link)
         → left_of records cursors (move ∷ moves) (link ∷ links) ≡ step link (is_none more) ∷ after links more
     one link links =
         left-at records cursors move moves (link ∷ links) trace there cursor is
-        ∙ ap (λ es. steps_in trace (cursor.told - move.first.0) es (link ∷ links)
+        ∙ ap (λ es. steps_in trace move.at (cursor.told - move.first.0) es (link ∷ links)
         ++ steps records moves (drop (length es) (link ∷ links))) range
 
     -- the event is passed
@@ -197,7 +198,7 @@ module _ (records : List RecordValue) (cursors : List CursorValue) (move : Move)
         let on : left_of records further (move ∷ moves) links ≡ after links more =
         left-at records further move moves links trace there rest (get-set_same cursors move.record.0 cursor rest is)
         ∙ ap (λ n. left_from records move moves links trace n) passed
-        ∙ ap (λ n. steps_in trace n more links ++ steps records moves (drop (length more) links)) e in
+        ∙ ap (λ n. steps_in trace move.at n more links ++ steps records moves (drop (length more) links)) e in
         one link links ∙ ap (λ b. step link b ∷ after links more) some ∙ ap (λ l. step link false ∷ l) (sym on)
 
 -- ---- what the code reads
@@ -245,15 +246,15 @@ module _ (records : List RecordValue) (cursors : List CursorValue) (all : List M
 
     pub left-after : (link : Link) (others : List Link) → links ≡ link ∷ others
         → left_of records cursors all links
-        ≡ step_of trace event link (n - move.first.0) (n + 1 == move.end.0)
+        ≡ step_of trace event link move.at (n - move.first.0) (n + 1 == move.end.0)
         ∷ left_of records (set cursors move.record.0 rest) after others
     left-after link others links_are =
         (λ i. left_of records cursors (is_first i) (links_are i))
         ∙ passed-left records cursors move moves in_first trace there cursor is event rest left passed number link
         others (n + 1 == move.end.0) ends
-        ∙ ap (λ (l : List Move). step_of trace event link (cursor.told - move.first.0) (n + 1 == move.end.0)
+        ∙ ap (λ (l : List Move). step_of trace event link move.at (cursor.told - move.first.0) (n + 1 == move.end.0)
         ∷ left_of records (set cursors move.record.0 rest) l others) (sym onward)
-        ∙ ap (λ k. step_of trace event link (k - move.first.0) (n + 1 == move.end.0)
+        ∙ ap (λ k. step_of trace event link move.at (k - move.first.0) (n + 1 == move.end.0)
         ∷ left_of records (set cursors move.record.0 rest) after others) (sym n_is)
 
 -- without links nothing is left

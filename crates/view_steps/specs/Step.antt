@@ -8,6 +8,7 @@ step_value step = record {
   trace = step.«record».now;
   event = event_of step.entry step.values.now;
   link = step.link;
+  at = step.at;
   place = step.place;
   closes = step.closes;
 }

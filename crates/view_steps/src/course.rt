@@ -8,7 +8,7 @@ ghost use Rattle.view_steps.specs.Course.{GoesOn, IsAfter, StandsAt, steps_left}
 ghost use Rattle.view_steps.specs.Living.{living_in};
 ghost use Rattle.view_steps.specs.Sending.{after, before, is_sent, is_there, sending_of, sending_value};
 ghost use Rattle.view_steps.specs.Walk.{StepValue, all_steps};
-ghost use Rattle.view_timeline.specs.Moves.{IsMove};
+ghost use Rattle.view_timeline.specs.Moves.{IsPart};
 ghost use Rattle.view_timeline.specs.Timeline.{AreBegun};
 
 use crate::heard::{closes_record, comes_after};
@@ -39,7 +39,7 @@ impl<'t> Course<'t> {
         report: &'t Report,
         told: &'t Timeline,
     ) -> Result<Self, AllocError>
-        requires transitions { AllByRecursion (IsMove report.now.records.items) told.now.moves.items }
+        requires parts { AllByRecursion (IsPart report.now.records.items) told.now.moves.items }
         requires begun { AreBegun report.now.records.items told.now }
         ensures { IfOk result (IsAfter system.now report.now.records.items []
             (all_steps report.now.records.items told.now)) }

@@ -8,7 +8,7 @@ ghost use Rattle.view_steps.specs.Sending.{SendingValue, line_sent, sending_valu
 ghost use Rattle.view_steps.specs.Takes.{AreLeft};
 ghost use Rattle.view_steps.specs.Walk.{StepValue, all_steps};
 ghost use Rattle.view_timeline.specs.declared.moves.Link.TheVariants as is;
-ghost use Rattle.view_timeline.specs.Moves.{IsMove};
+ghost use Rattle.view_timeline.specs.Moves.{IsPart};
 ghost use Rattle.view_timeline.specs.Timeline.{AreBegun};
 
 use crate::arrival::Arrival;
@@ -31,7 +31,7 @@ pub fn lost_signals<'s>(
     report: &Report,
     told: &Timeline,
 ) -> Result<Vec<Sending<'s>>, AllocError>
-    requires transitions { AllByRecursion (IsMove report.now.records.items) told.now.moves.items }
+    requires parts { AllByRecursion (IsPart report.now.records.items) told.now.moves.items }
     requires begun { AreBegun report.now.records.items told.now }
     ensures { IfOk result (λ lost. map sending_value lost.items
         ≡ lost_of system.now report.now told.now script.now.lines.items) }
@@ -55,7 +55,7 @@ fn sendings<'s, 't>(
     report: &'t Report,
     told: &'t Timeline,
 ) -> Result<Vec<Sending<'s>>, AllocError>
-    requires transitions { AllByRecursion (IsMove report.now.records.items) told.now.moves.items }
+    requires parts { AllByRecursion (IsPart report.now.records.items) told.now.moves.items }
     requires begun { AreBegun report.now.records.items told.now }
     ensures { IfOk result (λ sent. map sending_value sent.items ≡ sendings system.now report.now []
         (all_steps report.now.records.items told.now) lines.now) }

@@ -2,7 +2,7 @@
 
 ghost use Rattle.std.specs.Prelude.{◌≡◌, ◌∷◌, [], IfOk, MatchOption, drop, map};
 ghost use Rattle.std.specs.List.{AllByRecursion};
-ghost use Rattle.view_timeline.specs.Moves.{IsMove};
+ghost use Rattle.view_timeline.specs.Moves.{IsPart};
 ghost use Rattle.view_timeline.specs.Timeline.{AreBegun};
 ghost use Rattle.view_steps.specs.Occurrences.{gap, occurrences};
 ghost use Rattle.view_steps.specs.Occurrence.{occurrence_value};
@@ -50,7 +50,7 @@ impl<'t> Occurrences<'t> {
         told: &'t Timeline,
         lost: &'t [Sending<'t>],
     ) -> Result<Self, AllocError>
-        requires transitions { AllByRecursion (IsMove report.now.records.items) told.now.moves.items }
+        requires parts { AllByRecursion (IsPart report.now.records.items) told.now.moves.items }
         requires begun { AreBegun report.now.records.items told.now }
         ensures { IfOk result (λ all. all
             ≡ occurrences report.now.records.items told.now (map sending_value lost.now)) }

@@ -6,7 +6,7 @@ ghost use Rattle.view_steps.specs.Lost.{same_arrival, takes};
 ghost use Rattle.view_steps.specs.Takes.{counted};
 ghost use Rattle.view_steps.specs.Walk.{all_steps};
 ghost use Rattle.view_steps.specs.declared.arrival.Arrival.{Arrival};
-ghost use Rattle.view_timeline.specs.Moves.{IsMove};
+ghost use Rattle.view_timeline.specs.Moves.{IsPart};
 ghost use Rattle.view_timeline.specs.Timeline.{AreBegun};
 
 use crate::arrival::Arrival;
@@ -26,7 +26,7 @@ pub struct Takes {
 impl Takes {
     /// Those of a timeline.
     pub fn new(alloc: Global, report: &Report, told: &Timeline) -> Result<Self, AllocError>
-        requires transitions { AllByRecursion (IsMove report.now.records.items) told.now.moves.items }
+        requires parts { AllByRecursion (IsPart report.now.records.items) told.now.moves.items }
         requires begun { AreBegun report.now.records.items told.now }
         ensures { IfOk result (λ made. (arrival : Arrival) → counted made.counts arrival
             ≡ takes (all_steps report.now.records.items told.now) arrival) }

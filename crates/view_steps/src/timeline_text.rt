@@ -10,7 +10,7 @@ ghost use Rattle.view_steps.specs.Occurrences.{occurrence_text};
 ghost use Rattle.view_steps.specs.Sending.{sending_value};
 ghost use Rattle.view_steps.specs.Step.{step_value};
 ghost use Rattle.view_steps.specs.Written.{BreaksBefore, whole_text};
-ghost use Rattle.view_timeline.specs.Moves.{IsMove};
+ghost use Rattle.view_timeline.specs.Moves.{IsPart};
 ghost use Rattle.view_timeline.specs.Timeline.{AreBegun};
 
 use crate::occurrences::{Occurrence, Occurrences};
@@ -69,7 +69,7 @@ pub fn write_timeline<T: TimelineText, W: Write>(
     view: &T,
     writer: &mut W,
 ) -> Result<(), WriteFault>
-    requires transitions { AllByRecursion (IsMove report.now.records.items) told.now.moves.items }
+    requires parts { AllByRecursion (IsPart report.now.records.items) told.now.moves.items }
     requires begun { AreBegun report.now.records.items told.now }
     ensures ok { OnOk result (Appends (W.contents writer.old) (W.contents writer.new)
         (whole_text (T.heading_text view.now) (T.step_text view.now) (T.lost_text view.now)

@@ -2,16 +2,16 @@
 
 ghost use Rattle.std.specs.Prelude.{◌≡◌, ◌<◌, ◌∷◌, [], IfNone, IfOk, IfSome, MatchOption, if◌then◌else◌, length, slice_set};
 ghost use Rattle.std.specs.List.{AllByRecursion};
-ghost use Rattle.view_timeline.specs.Moves.{IsMove};
+ghost use Rattle.view_timeline.specs.Moves.{IsPart};
 ghost use Rattle.view_timeline.specs.Timeline.{AreBegun};
 ghost use Rattle.view_steps.specs.Step.{step_value};
-ghost use Rattle.view_steps.specs.Walk.{IsOnTheWay, all_steps, left_of};
+ghost use Rattle.view_steps.specs.Walk.{IsOnTheWay, all_steps, goes_on, left_of};
 
-use port_values::Value;
+use port_values::{Ticks, Value};
 use run_record::{Entry, Record, Report};
 use std::alloc::{AllocError, Global};
 use std::marker::Model;
-use view_timeline::{Cursor, Link, Move, Timeline};
+use view_timeline::{Cursor, Link, Move, Timeline, begins};
 
 /// An event of a timeline: the record of which it is, the entry with its values, and its link.
 #[derive(Drop)]
@@ -20,9 +20,26 @@ pub struct Step<'t> {
     pub entry: Entry,
     pub values: &'t [Value],
     pub link: Link,
+    /// When its transition began. A record closes at no time.
+    pub at: Option<Ticks>,
     /// Its place in its move, from 0, and whether the move ends with it.
     pub place: u32,
     pub closes: bool,
+}
+
+impl Step<'_> {
+    /// When its transition began, if it is the first of a part with which that goes on.
+    pub fn goes_on(&self) -> Option<u64>
+        ensures { result ≡ goes_on (step_value self.now) }
+    {
+        if self.place != 0 || begins(&self.entry) {
+            return None;
+        }
+        match self.at {
+            Some(at) => Some(at.get()),
+            None => None,
+        }
+    }
 }
 
 /// Goes through a timeline, event by event. It is in the first of the moves; the cursors say how much of each record it
@@ -49,7 +66,7 @@ impl<'t> Model for Walk<'t> {
 impl<'t> Walk<'t> {
     /// Before the first event of a timeline of the report.
     pub fn new(alloc: Global, report: &'t Report, told: &'t Timeline) -> Result<Self, AllocError>
-        requires transitions { AllByRecursion (IsMove report.now.records.items) told.now.moves.items }
+        requires parts { AllByRecursion (IsPart report.now.records.items) told.now.moves.items }
         requires begun { AreBegun report.now.records.items told.now }
         ensures { IfOk result (λ walk. walk ≡ all_steps report.now.records.items told.now) }
     {
@@ -123,6 +140,7 @@ fn pass<'t>(
             entry: next.entry,
             values: next.values,
             link: *link,
+            at: first.at,
             place: next.first - begin,
             closes,
         },

@@ -7,9 +7,9 @@ use Rattle.sdl_expected.proofs.environment.outputs.Goals as goal
 
 pub loop-step-preserved : goal.loop-step-preserved
 loop-step-preserved c =
-    step_more c.args.system.now _ (string_bytes c.loop-step.text) _ c.loop-step.now c.time_after-now.result c.pid.result
-    (step_value c.in-Some.step) _ _ c.loop-step.invariant c.in-Some.ensures.left
-    (c.time_after-now.ensures c.in-Some.step.values.now) c.pid.ensures c.in_ok-push_sent.ensures
+    step_more c.args.system.now _ (string_bytes c.loop-step.text) _ c.time_or_first-began.result c.pid.result
+    (step_value c.in-Some.step) _ _ c.loop-step.invariant c.in-Some.ensures.left c.time_or_first-began.ensures
+    c.pid.ensures c.in_ok-push_sent.ensures
 
 pub loop-step-smaller : goal.loop-step-smaller
 loop-step-smaller c = let e = ap length c.in-Some.ensures.left in omega (arith, e)
@@ -17,7 +17,7 @@ loop-step-smaller c = let e = ap length c.in-Some.ensures.left in omega (arith, 
 pub returns : goal.returns
 returns c =
     sym (append-nil (string_bytes c.loop-step.text))
-    ∙ ap (λ l. string_bytes c.loop-step.text ++ outputs_of c.args.system.now c.loop-step.now l)
+    ∙ ap (λ l. string_bytes c.loop-step.text ++ outputs_of c.args.system.now l)
     (sym c.in_default.ensures.left)
     ∙ c.loop-step.invariant
-    ∙ ap (outputs_of c.args.system.now 0) c.in_ok-walk.ensures
+    ∙ ap (outputs_of c.args.system.now) c.in_ok-walk.ensures

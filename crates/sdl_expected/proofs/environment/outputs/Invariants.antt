@@ -5,7 +5,7 @@ use Rattle.sdl_expected.proofs.environment.outputs.Given as goal
 
 abbrev pub invariant-loop-step : goal.invariant-loop-step
 invariant-loop-step l =
-    string_bytes l.text ++ outputs_of l.system l.now l.walk ≡ outputs_of l.system 0 l.initial.walk
+    string_bytes l.text ++ outputs_of l.system l.walk ≡ outputs_of l.system l.initial.walk
 
 abbrev pub decreases-loop-step : goal.decreases-loop-step
 decreases-loop-step l = length l.walk

@@ -10,7 +10,7 @@ invariant_of-result c =
     let fresh_are : cursors ≡ map fresh records =
     fresh-all records c.deref-record-items.result.now cursors c.loop-record.record-index
     c.deref-record-items.ensures.value c.loop-record-test.false c.loop-record.invariant in
-    started records c.args.told.now c.requires.transitions c.requires.begun c.deref.result.now cursors
+    started records c.args.told.now c.requires.parts c.requires.begun c.deref.result.now cursors
     c.deref-2.result.now c.deref.ensures.value fresh_are c.deref-2.ensures.value
 
 pub returns : goal.returns
@@ -20,6 +20,6 @@ returns c =
     let fresh_are : cursors ≡ map fresh records =
     fresh-all records c.deref-record-items.result.now cursors c.loop-record.record-index
     c.deref-record-items.ensures.value c.loop-record-test.false c.loop-record.invariant in
-    started-left records c.args.told.now c.requires.transitions c.requires.begun c.deref.result.now cursors
+    started-left records c.args.told.now c.requires.parts c.requires.begun c.deref.result.now cursors
     c.deref-2.result.now c.deref.ensures.value fresh_are c.deref-2.ensures.value c.deref-3.result.now
     c.deref-3.ensures.value
