@@ -1,5 +1,5 @@
 -- Whether an instance of a run failed, by the notes of it.
-use Rattle.std.proofs.Common.{◌≡◌, ℕ, Bool, true, false, List, Option, None, Some, Result, Ok, Err, IfOk, IfSome, OnOk, inl, inr, refl, subst, sym}
+use Rattle.std.proofs.Common.{◌≡◌, ℕ, Bool, true, false, List, Option, None, Some, is_some, Result, Ok, Err, IfOk, IfSome, OnOk, inl, inr, subst, sym}
 use Rattle.failure_replay.specs.Ending.{has_failed}
 use Rattle.sdl_input.specs.declared.input.Input.{Input}
 use Rattle.sdl_engine.specs.Answer.{IsRunOfInput, TellsRun, outcome_by, outcome_of}
@@ -11,6 +11,7 @@ use Rattle.sdl_engine.specs.declared.options.TextFault.{TextFault}
 use Rattle.sdl_engine.specs.declared.refusal.Refusal.{Refusal}
 use Rattle.sdl_engine.specs.declared.refusal.Refusal.TheVariants as refusal
 use Rattle.sdl_engine.specs.declared.run.Run.{Run}
+use Rattle.sdl_engine.proofs.KeptLaws.{if_kept, if_none, told_run}
 
 -- the notes of a kept run say whether an instance of it failed
 abbrev pub Tells : Option Run → Bool → Type 0
@@ -20,40 +21,30 @@ Tells kept failed = IfSome kept (λ (run : Run). failed ≡ has_failed run.repor
 pub tells_kept : (keeps failed : Bool) (run : Run) (kept : Option Run)
     → failed ≡ has_failed run.report.records.items
     → (keeps ≡ true → kept ≡ Some run) → (keeps ≡ false → kept ≡ None) → Tells kept failed
-tells_kept true failed run kept is holds drops =
-    let P : Option Run → Type 0 = λ k. Tells k failed in subst P (sym (holds refl)) is
-tells_kept false failed run kept is holds drops =
-    let P : Option Run → Type 0 = λ k. Tells k failed in subst P (sym (drops refl)) tt
+tells_kept keeps failed run kept = if_kept (λ (r : Run). failed ≡ has_failed r.report.records.items) keeps run kept
 
 -- of no run they say nothing
 pub tells_none : (failed : Bool) (kept : Option Run) → kept ≡ None → Tells kept failed
-tells_none failed kept none = let P : Option Run → Type 0 = λ k. Tells k failed in subst P (sym none) tt
+tells_none failed kept = if_none (λ (r : Run). failed ≡ has_failed r.report.records.items) kept
 
 -- ---- whether or not the run is kept
 
 -- by the run that was told
 pub run_failed : (input : Input) (options : Options) (workers : Option ℕ) (run : Run) (before stuck : Option ℕ)
     (failed : Bool) (old new : Option (List ℕ)) (r : Result Outcome TextFault) → options.command ≡ command.Run
-    → options.workers ≡ workers
+    → options.workers ≡ workers → run.has_workers ≡ is_some workers
     → IsRunOfInput input workers options.limit run.system run.report run.script.lines.items
     → IfOk r (λ how. how ≡ outcome_by run.report.whole)
-    → OnOk r (TellsRun options.view run.system run.report run.script.lines.items before old new)
+    → OnOk r (TellsRun options.view run.has_workers run.system run.report run.script.lines.items before old new)
     → stuck ≡ before → failed ≡ has_failed run.report.records.items
     → IfOk r (λ how. SaysFailed input options how stuck failed old new)
-run_failed input options workers run before stuck failed old new (Ok how) asked by ran is tells same fails =
+run_failed input options workers run before stuck failed old new (Ok how) asked by has ran is tells same fails =
     inr (record {
       run = run;
-      told = record {
-        asked = asked;
-        ran = subst (λ (w : Option ℕ).
-            IsRunOfInput input w options.limit run.system run.report run.script.lines.items) (sym by) ran;
-        came = is;
-        tells = subst (λ (s : Option ℕ).
-            TellsRun options.view run.system run.report run.script.lines.items s old new) (sym same) tells;
-      };
+      told = told_run input options workers how run before stuck old new asked by has ran is tells same;
       is = fails;
     })
-run_failed input options workers run before stuck failed old new (Err why) asked by ran is tells same fails = tt
+run_failed input options workers run before stuck failed old new (Err why) asked by has ran is tells same fails = tt
 
 -- of a refusal no run was told
 refused_no_run : (options : Options) (how : Outcome) (why : Refusal) → how ≡ outcome_of why → TellsNoRun options how

@@ -1,4 +1,4 @@
 pub mod AnswerLaws
 pub mod BehaviourLemmas
-pub mod OrderLaws
 pub mod FailedLaws
+pub mod KeptLaws

@@ -1,5 +1,5 @@
 -- What the program answers to its input.
-use Rattle.std.specs.Prelude.{◌≡◌, ◌⊎◌, ℕ, Bool, true, false, List, Option, None, Some}
+use Rattle.std.specs.Prelude.{◌≡◌, ◌⊎◌, ℕ, Bool, true, false, List, Option, None, Some, is_some}
 use Rattle.std.specs.Io.KnownBytes.{Appends, Keeps}
 use Rattle.sdl_build.specs.Built.{IsBuilt}
 use Rattle.sdl_build.specs.Outcome.{IsRefusedAs}
@@ -78,7 +78,8 @@ pub record IsRunOf (texts : Texts) (workers : Option ℕ) (limit : ℕ) (system 
   pub ran : (ps : List Behaviour) → AreOfText accepted.built.context system ps
       → IsReportBy workers ps system lines limit report
 
--- the text that tells the report of such a run, of one that is whole or of one that was cut
+-- the text that tells the report of such a run, of one that is whole or of one that was cut, as of one with workers if
+-- it has some
 pub record Reports (texts : Texts) (workers : Option ℕ) (limit : ℕ) (view : View) (whole : Bool)
     (text : List ℕ) : Type 0 where
   pub system : SystemValue
@@ -87,7 +88,7 @@ pub record Reports (texts : Texts) (workers : Option ℕ) (limit : ℕ) (view : 
   pub run : IsRunOf texts workers limit system report lines
   pub is_whole : report.whole ≡ whole
   pub stuck : Option ℕ
-  pub says : IsTold view system report lines stuck text
+  pub says : IsTold view (is_some workers) system report lines stuck text
 
 -- the canonical text of the tree of an accepted input
 pub record Prints (texts : Texts) (text : List ℕ) : Type 0 where
@@ -283,28 +284,30 @@ BreaksOff fault.Read text old new = ⊥
 BreaksOff fault.Write text old new = gathered.BreaksOff old new text
 BreaksOff fault.Memory text old new = gathered.BreaksOff old new text
 
--- the text that tells a run went out, in its order up to the instance that can't go on, if one can't
-pub record TellsRun (view : View) (system : SystemValue) (report : Report) (lines : List ScriptLine) (stuck : Option ℕ)
-    (old new : Option (List ℕ)) : Type 0 where
+-- the text that tells a run with workers, or without, went out, in its order up to the instance that can't go on, if
+-- one can't
+pub record TellsRun (view : View) (has_workers : Bool) (system : SystemValue) (report : Report)
+    (lines : List ScriptLine) (stuck : Option ℕ) (old new : Option (List ℕ)) : Type 0 where
   pub text : List ℕ
-  pub says : IsTold view system report lines stuck text
+  pub says : IsTold view has_workers system report lines stuck text
   pub out : Appends old new text
 
 -- a beginning of the text that tells a run went out, and not all of it
-pub record BreaksOffRun (view : View) (system : SystemValue) (report : Report) (lines : List ScriptLine)
-    (old new : Option (List ℕ)) : Type 0 where
+pub record BreaksOffRun (view : View) (has_workers : Bool) (system : SystemValue) (report : Report)
+    (lines : List ScriptLine) (old new : Option (List ℕ)) : Type 0 where
   pub text : List ℕ
   pub stuck : Option ℕ
-  pub says : IsTold view system report lines stuck text
+  pub says : IsTold view has_workers system report lines stuck text
   pub breaks : gathered.BreaksOff old new text
 
 -- what went out of a run before this fault: nothing, where there was no memory for its order
-abbrev pub FailsToTellRun : TextFault → View → SystemValue → Report → List ScriptLine → Option (List ℕ)
+abbrev pub FailsToTellRun : TextFault → View → Bool → SystemValue → Report → List ScriptLine → Option (List ℕ)
     → Option (List ℕ) → Type 0
-FailsToTellRun fault.Read view system report lines old new = ⊥
-FailsToTellRun fault.Write view system report lines old new = BreaksOffRun view system report lines old new
-FailsToTellRun fault.Memory view system report lines old new =
-    Keeps old new ⊎ BreaksOffRun view system report lines old new
+FailsToTellRun fault.Read view has_workers system report lines old new = ⊥
+FailsToTellRun fault.Write view has_workers system report lines old new =
+    BreaksOffRun view has_workers system report lines old new
+FailsToTellRun fault.Memory view has_workers system report lines old new =
+    Keeps old new ⊎ BreaksOffRun view has_workers system report lines old new
 
 -- what went out of the line of a refusal, which is made first: nothing, where there was no memory to make it
 abbrev pub FailsToTell : TextFault → List ℕ → Option (List ℕ) → Option (List ℕ) → Type 0

@@ -1,5 +1,5 @@
 -- What is kept of a run for those who draw it, or tell what it covered.
-use Rattle.std.specs.Prelude.{◌≡◌, ◌⊎◌, ℕ, Bool, true, false, List, Option, None, Some}
+use Rattle.std.specs.Prelude.{◌≡◌, ◌⊎◌, ℕ, Bool, true, false, List, Option, None, Some, is_some}
 use Rattle.failure_replay.specs.Ending.{has_failed}
 use Rattle.sdl_input.specs.Input.{IsRead}
 use Rattle.sdl_input.specs.declared.input.Input.{Input}
@@ -12,14 +12,15 @@ use Rattle.sdl_engine.specs.declared.options.Outcome.{Outcome}
 use Rattle.sdl_engine.specs.declared.options.Outcome.TheVariants as outcome
 use Rattle.sdl_engine.specs.declared.run.Run.{Run}
 
--- This is a run of the input as it was asked for, it came to this, and what went out tells it, up to the instance that
--- can't go on, if one can't.
+-- This is a run of the input as it was asked for, and known as one with workers just if it has some. It came to this,
+-- and what went out tells it, up to the instance that can't go on, if one can't.
 pub record IsToldRun (input : Input) (options : Options) (how : Outcome) (run : Run) (stuck : Option ℕ)
     (old new : Option (List ℕ)) : Type 0 where
   pub asked : options.command ≡ command.Run
   pub ran : IsRunOfInput input options.workers options.limit run.system run.report run.script.lines.items
+  pub workers : run.has_workers ≡ is_some options.workers
   pub came : how ≡ outcome_by run.report.whole
-  pub tells : TellsRun options.view run.system run.report run.script.lines.items stuck old new
+  pub tells : TellsRun options.view run.has_workers run.system run.report run.script.lines.items stuck old new
 
 -- No run was told: it was a check, or something was refused.
 abbrev pub TellsNoRun : Options → Outcome → Type 0

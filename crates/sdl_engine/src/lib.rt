@@ -29,7 +29,7 @@ mod warned;
 
 pub use notes::{Names, Notes};
 pub use options::{Command, Options, Outcome, TextFault, View};
-pub use order::{Order, order_of};
+pub use order::order_of;
 pub use refusal::Refusal;
 pub use refusal_text::{fixed_line, refusal_line};
 pub use run::Run;
@@ -39,4 +39,5 @@ pub use serial::Serial;
 pub use serial_run::{Listener, Nobody};
 pub use text::{run_and_note, run_text};
 pub use threaded::Threaded;
+pub use view_run::Order;
 pub use warned::suspicions_of;

@@ -1,66 +1,68 @@
 //! One order of a run.
 
-ghost use Rattle.std.specs.Prelude.{◌≡◌, IfErr, IfOk, map};
+ghost use Rattle.std.specs.Prelude.{◌≡◌, IfErr, IfOk, false, map, true};
 ghost use Rattle.std.specs.List.{AllByRecursion};
-ghost use Rattle.view_timeline.specs.Moves.{IsMove};
-ghost use Rattle.view_timeline.specs.Timeline.{AreBegun};
-ghost use Rattle.sdl_engine.specs.Views.{IsTimeline, IsTimelineTo, lost_to};
+ghost use Rattle.view_run.specs.Order.{IsOrderBy, lost_to};
 ghost use Rattle.view_steps.specs.Sending.{sending_value};
+ghost use Rattle.view_timeline.specs.Moves.{IsPart};
+ghost use Rattle.view_timeline.specs.Timeline.{AreBegun};
 
 use crate::options::TextFault;
 use crate::run::Run;
 use std::alloc::Global;
-use view_steps::{Sending, lost_signals};
-use view_timeline::{Timeline, Untold, timeline};
+use view_run::{Order, order_by_course, order_by_report};
 
-/// One order of a run, as far as it is known.
-#[derive(Drop)]
-pub struct Order<'r> {
-    pub told: Timeline,
-    /// The instance that can't go on in it, if there is one.
-    pub stuck: Option<u32>,
-    /// The signals of the script that nobody took. None is known of an order that isn't known to its end.
-    pub lost: Vec<Sending<'r>>,
-}
-
-/// An order of a run.
+/// An order of a run. Of one with workers it is one order of all, by its course.
 pub fn order_of<'r>(alloc: Global, run: &'r Run) -> Result<Order<'r>, TextFault>
-    ensures told { IfOk result (λ order. IsTimelineTo order.stuck run.now.report.records.items order.told) }
-    ensures transitions { IfOk result (λ order.
-        AllByRecursion (IsMove run.now.report.records.items) order.told.moves.items) }
+    ensures told { IfOk result (λ order. IsOrderBy run.now.has_workers order.stuck run.now.system
+        run.now.script.lines.items run.now.report order.told) }
+    ensures parts { IfOk result (λ order.
+        AllByRecursion (IsPart run.now.report.records.items) order.told.moves.items) }
     ensures begun { IfOk result (λ order. AreBegun run.now.report.records.items order.told) }
     ensures lost { IfOk result (λ order. map sending_value order.lost.items
         ≡ lost_to order.stuck run.now.system run.now.report order.told run.now.script.lines.items) }
     ensures err { IfErr result (λ fault. fault ≡ TextFault.Memory) }
 {
-    match timeline(alloc, &run.report) {
-        Ok(told) => whole_order(alloc, run, told),
-        Err(Untold::Stuck { told, number }) => Ok(Order {
-            told,
-            stuck: Some(number),
-            lost: Vec::new(alloc),
-        }),
-        Err(Untold::Memory) => Err(TextFault::Memory),
+    if run.has_workers {
+        by_course(alloc, run)
+    } else {
+        by_report(alloc, run)
     }
 }
 
-/// The order that is known to its end.
-fn whole_order<'r>(alloc: Global, run: &'r Run, told: Timeline) -> Result<Order<'r>, TextFault>
-    requires { IsTimeline run.now.report.records.items told }
-    ensures told { IfOk result (λ order. IsTimelineTo order.stuck run.now.report.records.items order.told) }
-    ensures transitions { IfOk result (λ order.
-        AllByRecursion (IsMove run.now.report.records.items) order.told.moves.items) }
+/// One order of all of a run. If its course isn't kept, there was no memory for it.
+fn by_course<'r>(alloc: Global, run: &'r Run) -> Result<Order<'r>, TextFault>
+    ensures told { IfOk result (λ order. IsOrderBy true order.stuck run.now.system
+        run.now.script.lines.items run.now.report order.told) }
+    ensures parts { IfOk result (λ order.
+        AllByRecursion (IsPart run.now.report.records.items) order.told.moves.items) }
     ensures begun { IfOk result (λ order. AreBegun run.now.report.records.items order.told) }
     ensures lost { IfOk result (λ order. map sending_value order.lost.items
         ≡ lost_to order.stuck run.now.system run.now.report order.told run.now.script.lines.items) }
     ensures err { IfErr result (λ fault. fault ≡ TextFault.Memory) }
 {
-    match lost_signals(alloc, &run.system, &run.script, &run.report, &told) {
-        Ok(lost) => Ok(Order {
-            told,
-            stuck: None,
-            lost,
-        }),
+    let Some(course) = &run.course else {
+        return Err(TextFault::Memory);
+    };
+    match order_by_course(alloc, &run.system, &run.script, &run.report, course) {
+        Ok(order) => Ok(order),
+        Err(_) => Err(TextFault::Memory),
+    }
+}
+
+/// An order of a run without workers.
+fn by_report<'r>(alloc: Global, run: &'r Run) -> Result<Order<'r>, TextFault>
+    ensures told { IfOk result (λ order. IsOrderBy false order.stuck run.now.system
+        run.now.script.lines.items run.now.report order.told) }
+    ensures parts { IfOk result (λ order.
+        AllByRecursion (IsPart run.now.report.records.items) order.told.moves.items) }
+    ensures begun { IfOk result (λ order. AreBegun run.now.report.records.items order.told) }
+    ensures lost { IfOk result (λ order. map sending_value order.lost.items
+        ≡ lost_to order.stuck run.now.system run.now.report order.told run.now.script.lines.items) }
+    ensures err { IfErr result (λ fault. fault ≡ TextFault.Memory) }
+{
+    match order_by_report(alloc, &run.system, &run.script, &run.report) {
+        Ok(order) => Ok(order),
         Err(_) => Err(TextFault::Memory),
     }
 }

@@ -4,6 +4,7 @@ ghost use Rattle.std.specs.Prelude.{◌≡◌};
 ghost use Rattle.std.specs.String.{string_bytes};
 ghost use Rattle.sdl_engine.specs.Views.{has_signal, signals_of};
 
+use run_course::Course;
 use run_record::Report;
 use sdl_script::{Script, ScriptLine};
 use sdl_system::System;
@@ -16,6 +17,10 @@ pub struct Run {
     pub system: System,
     pub script: Script,
     pub report: Report,
+    /// Whether it had workers. Of such a run its course is kept, so that its one order can be told, if that is asked for
+    /// and there was memory for it.
+    pub has_workers: bool,
+    pub course: Option<Course>,
 }
 
 impl Run {

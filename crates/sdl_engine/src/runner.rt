@@ -1,6 +1,6 @@
 //! Who makes the steps of a run, and the text of its report.
 
-ghost use Rattle.std.specs.Prelude.{◌≡◌, All, Bool, IfErr, IfOk, List, None, OnErr, OnOk};
+ghost use Rattle.std.specs.Prelude.{◌≡◌, All, Bool, IfErr, IfOk, IfSome, List, None, OnErr, OnOk, false, is_some, length};
 ghost use Rattle.std.specs.Io.KnownBytes.{Appends};
 ghost use Rattle.run_semantics.specs.Behaves.{AreBehaviours};
 ghost use Rattle.sdl_engine.specs.Answer.{IsReportBy, workers_by};
@@ -9,11 +9,13 @@ ghost use Rattle.sdl_report.specs.Gathered.{BreaksOff};
 ghost use Rattle.sdl_report.specs.ReportText.{report_text};
 ghost use Rattle.sdl_script.specs.Script.{SendsFromEnv};
 ghost use Rattle.sdl_system.specs.Behaviour.{Behaviour};
+ghost use Rattle.settle_run.specs.Course.{HasRows};
 
 use run_record::{Report, RunError};
 use sdl_report::WriteFault;
 use sdl_script::Script;
 use sdl_system::System;
+use sdl_workers::Settled;
 use serial_run::Listener;
 use std::alloc::Global;
 use std::io::Write;
@@ -25,7 +27,8 @@ pub trait Runner {
     ghost threaded: { Bool };
 
     /// Runs a system on a script, cut after so many transitions. While a serial run goes on, the listener hears how far
-    /// it is. That the script is one for the system is the caller's condition.
+    /// it is. A run with workers keeps its course beside the report, where that is asked for and there is memory for it.
+    /// That the script is one for the system is the caller's condition.
     fn run<L: Listener>(
         &self,
         alloc: Global,
@@ -33,12 +36,21 @@ pub trait Runner {
         script: &Script,
         workers: Option<u8>,
         limit: u64,
+        keeps_course: bool,
         listener: L,
-    ) -> Result<Report, RunError>
+    ) -> Result<Settled, RunError>
         requires { All (SendsFromEnv system.now) script.now.lines.items }
-        ensures report { IfOk result (λ report. (ps : List Behaviour) → AreBehaviours system.now ps
-            → IsReportBy (workers_by Self.threaded Run workers) ps system.now script.now.lines.items limit report) }
+        ensures report { IfOk result (λ settled. (ps : List Behaviour) → AreBehaviours system.now ps
+            → IsReportBy (workers_by Self.threaded Run workers) ps system.now script.now.lines.items limit
+            settled.report) }
+        ensures off { keeps_course ≡ false → IfOk result (λ settled. settled.course ≡ None) }
+        ensures rows { IfOk result (λ settled.
+            IfSome settled.course (HasRows (length settled.report.records.items))) }
         ensures err { workers_by Self.threaded Run workers ≡ None → IfErr result (λ why. why ≡ RunError.Memory) };
+
+    /// Whether a run has workers for which so many are asked: without threads it has none.
+    fn has_workers(&self, workers: Option<u8>) -> bool
+        ensures { result ≡ is_some (workers_by Self.threaded Run workers) };
 
     /// Writes a report. So many workers make its text, if there are threads for them.
     fn write_report<W: Write>(

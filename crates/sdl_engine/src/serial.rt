@@ -5,6 +5,7 @@ use run_record::{Report, RunError};
 use sdl_report::{WriteFault, write_report};
 use sdl_script::Script;
 use sdl_system::System;
+use sdl_workers::Settled;
 use serial_run::{Listener, run_serial_heard};
 use std::alloc::Global;
 use std::io::Write;
@@ -25,9 +26,18 @@ impl Runner for Serial {
         script: &Script,
         _workers: Option<u8>,
         limit: u64,
+        _keeps_course: bool,
         listener: L,
-    ) -> Result<Report, RunError> {
-        run_serial_heard(alloc, system, script, limit, listener)
+    ) -> Result<Settled, RunError> {
+        let report = run_serial_heard(alloc, system, script, limit, listener)?;
+        Ok(Settled {
+            report,
+            course: None,
+        })
+    }
+
+    fn has_workers(&self, _workers: Option<u8>) -> bool {
+        false
     }
 
     fn write_report<W: Write>(

@@ -1,12 +1,17 @@
 //! A run with threads for workers. Its calls may wait for them.
 
+ghost use Rattle.std.specs.Prelude.{◌≡◌, All, IfOk, IfSome, None, false, length};
+ghost use Rattle.sdl_script.specs.Script.{SendsFromEnv};
+ghost use Rattle.settle_meaning.specs.Settled.{IsSettledReport};
+ghost use Rattle.settle_run.specs.Course.{HasRows};
+
 use crate::runner::Runner;
 use crate::serial::Serial;
 use run_record::{Report, RunError};
 use sdl_report::WriteFault;
 use sdl_script::Script;
 use sdl_system::System;
-use sdl_workers::{Open, run};
+use sdl_workers::{Open, Settled, run, run_with_course};
 use serial_run::Listener;
 use std::alloc::Global;
 use std::io::Write;
@@ -53,20 +58,25 @@ impl<T: Threads + Wait + Sync> Runner for Threaded<T> {
         script: &Script,
         workers: Option<u8>,
         limit: u64,
+        keeps_course: bool,
         listener: L,
-    ) -> Result<Report, RunError> {
+    ) -> Result<Settled, RunError> {
         match workers {
-            None => Serial.run(alloc, system, script, None, limit, listener),
-            Some(count) => run(
+            None => Serial.run(alloc, system, script, None, limit, keeps_course, listener),
+            Some(count) => run_by(
                 &&self.leave,
                 alloc,
                 system,
                 script,
-                usize::from(count),
+                count,
                 limit,
-                &Open,
+                keeps_course,
             ),
         }
+    }
+
+    fn has_workers(&self, workers: Option<u8>) -> bool {
+        workers.is_some()
     }
 
     fn write_report<W: Write>(
@@ -85,4 +95,33 @@ impl<T: Threads + Wait + Sync> Runner for Threaded<T> {
             }
         }
     }
+}
+
+/// A run by so many workers, with its course where that is asked for. That the script is one for the system is the
+/// caller's condition.
+fn run_by<R: Threads + Wait + Copy + Send + Sync>(
+    rt: &R,
+    alloc: Global,
+    system: &System,
+    script: &Script,
+    workers: u8,
+    limit: u64,
+    keeps_course: bool,
+) -> Result<Settled, RunError>
+    requires { All (SendsFromEnv system.now) script.now.lines.items }
+    ensures settled { IfOk result (λ settled.
+        IsSettledReport system.now script.now.lines.items limit settled.report) }
+    ensures off { keeps_course ≡ false → IfOk result (λ settled. settled.course ≡ None) }
+    ensures rows { IfOk result (λ settled.
+        IfSome settled.course (HasRows (length settled.report.records.items))) }
+{
+    let count = usize::from(workers);
+    if keeps_course {
+        return run_with_course(rt, alloc, system, script, count, limit, &Open);
+    }
+    let report = run(rt, alloc, system, script, count, limit, &Open)?;
+    Ok(Settled {
+        report,
+        course: None,
+    })
 }

@@ -22,9 +22,9 @@ pub fn write_view<E: Runner, W: Write>(
     workers: Option<u8>,
     writer: &mut W,
 ) -> Result<Option<u32>, TextFault>
-    ensures ok { IfOk result (λ stuck. TellsRun view run.now.system run.now.report run.now.script.lines.items stuck
-        (W.contents writer.old) (W.contents writer.new)) }
-    ensures err { IfErr result (λ fault. FailsToTellRun fault view run.now.system run.now.report
+    ensures ok { IfOk result (λ stuck. TellsRun view run.now.has_workers run.now.system run.now.report
+        run.now.script.lines.items stuck (W.contents writer.old) (W.contents writer.new)) }
+    ensures err { IfErr result (λ fault. FailsToTellRun fault view run.now.has_workers run.now.system run.now.report
         run.now.script.lines.items (W.contents writer.old) (W.contents writer.new)) }
     ensures trace { view ≡ View.Trace → IfOk result (λ stuck. stuck ≡ None) }
 {
@@ -43,10 +43,10 @@ fn write_trace<E: Runner, W: Write>(
     workers: Option<u8>,
     writer: &mut W,
 ) -> Result<Option<u32>, TextFault>
-    ensures ok { IfOk result (λ stuck. TellsRun View.Trace run.now.system run.now.report
+    ensures ok { IfOk result (λ stuck. TellsRun View.Trace run.now.has_workers run.now.system run.now.report
         run.now.script.lines.items stuck (W.contents writer.old) (W.contents writer.new)) }
-    ensures err { IfErr result (λ fault. FailsToTellRun fault View.Trace run.now.system run.now.report
-        run.now.script.lines.items (W.contents writer.old) (W.contents writer.new)) }
+    ensures err { IfErr result (λ fault. FailsToTellRun fault View.Trace run.now.has_workers run.now.system
+        run.now.report run.now.script.lines.items (W.contents writer.old) (W.contents writer.new)) }
     ensures trace { IfOk result (λ stuck. stuck ≡ None) }
 {
     runner.write_report(alloc, workers, &run.report, &run.system, writer)?;
@@ -59,10 +59,10 @@ fn write_in_lines<W: Write>(
     run: &Run,
     writer: &mut W,
 ) -> Result<Option<u32>, TextFault>
-    ensures ok { IfOk result (λ stuck. TellsRun View.Lines run.now.system run.now.report
+    ensures ok { IfOk result (λ stuck. TellsRun View.Lines run.now.has_workers run.now.system run.now.report
         run.now.script.lines.items stuck (W.contents writer.old) (W.contents writer.new)) }
-    ensures err { IfErr result (λ fault. FailsToTellRun fault View.Lines run.now.system run.now.report
-        run.now.script.lines.items (W.contents writer.old) (W.contents writer.new)) }
+    ensures err { IfErr result (λ fault. FailsToTellRun fault View.Lines run.now.has_workers run.now.system
+        run.now.report run.now.script.lines.items (W.contents writer.old) (W.contents writer.new)) }
 {
     let order = order_of(alloc, run)?;
     let (report, system) = (&run.report, &run.system);
@@ -85,10 +85,10 @@ fn write_in_json<W: Write>(
     run: &Run,
     writer: &mut W,
 ) -> Result<Option<u32>, TextFault>
-    ensures ok { IfOk result (λ stuck. TellsRun View.Json run.now.system run.now.report run.now.script.lines.items stuck
-        (W.contents writer.old) (W.contents writer.new)) }
-    ensures err { IfErr result (λ fault. FailsToTellRun fault View.Json run.now.system run.now.report
-        run.now.script.lines.items (W.contents writer.old) (W.contents writer.new)) }
+    ensures ok { IfOk result (λ stuck. TellsRun View.Json run.now.has_workers run.now.system run.now.report
+        run.now.script.lines.items stuck (W.contents writer.old) (W.contents writer.new)) }
+    ensures err { IfErr result (λ fault. FailsToTellRun fault View.Json run.now.has_workers run.now.system
+        run.now.report run.now.script.lines.items (W.contents writer.old) (W.contents writer.new)) }
 {
     let order = order_of(alloc, run)?;
     let (told, stuck) = (&order.told, order.stuck);

@@ -1,7 +1,6 @@
 -- What the calls of a drawing give, put together into what is said of it.
 use Rattle.std.proofs.Common.{◌≡◌, ◌≢◌, ℕ, List, Option, None, ap, inr, refl}
 use Rattle.sdl_engine.specs.Answer.{fault_of}
-use Rattle.sdl_engine.specs.Views.{IsTimelineTo, lost_to}
 use Rattle.sdl_engine.specs.declared.run.Run.{Run}
 use Rattle.sdl_report.specs.Gathered.{BreaksOff}
 use Rattle.sdl_report.specs.declared.write_whole.WriteFault.{WriteFault}
@@ -10,6 +9,7 @@ use Rattle.std.specs.Io.KnownBytes.{Appends}
 use Rattle.std.specs.String.{string_bytes}
 use Rattle.view_msc.specs.MscText.{msc_text}
 use Rattle.view_picture.specs.Written.{IsBrokenOff, IsWritten}
+use Rattle.view_run.specs.Order.{IsOrderBy, lost_to}
 use Rattle.view_steps.specs.Sending.{SendingValue}
 use Rattle.view_timeline.specs.declared.moves.Timeline.{Timeline}
 use Rattle.sdl_views.specs.Drawn.{FailsToDraw, IsBegun, IsChart, IsDrawn}
@@ -53,22 +53,26 @@ picture_fails why form run old new no_text off = fails why
 abbrev text_of : Run → Option ℕ → Timeline → List SendingValue → List ℕ
 text_of run stuck told lost = msc_text (string_bytes run.tree.name.text) run.system told stuck lost run.report
 
+-- the order of the run
+abbrev pub IsTold : Run → Option ℕ → Timeline → Type 0
+IsTold run stuck told = IsOrderBy run.has_workers stuck run.system run.script.lines.items run.report told
+
 -- the signals of the script that nobody took
 abbrev pub AreLost : Run → Option ℕ → Timeline → List SendingValue → Type 0
 AreLost run stuck told lost = lost ≡ lost_to stuck run.system run.report told run.script.lines.items
 
 pub text_drawn : (run : Run) (stuck : Option ℕ) (told : Timeline) (lost : List SendingValue)
-    (old new : Option (List ℕ)) → IsTimelineTo stuck run.report.records.items told → AreLost run stuck told lost →
+    (old new : Option (List ℕ)) → IsTold run stuck told → AreLost run stuck told lost →
     Appends old new (msc_text (string_bytes run.tree.name.text) run.system told stuck lost run.report) →
     IsDrawn forms.Msc run stuck old new
 text_drawn run stuck told lost old new is are out = record {
   text = text_of run stuck told lost;
-  chart = record { told = told; is_timeline = is; says = ap (text_of run stuck told) are };
+  chart = record { told = told; is_order = is; says = ap (text_of run stuck told) are };
   out = out;
 }
 
 pub text_fails : (why : WriteFault) (run : Run) (stuck : Option ℕ) (told : Timeline) (lost : List SendingValue)
-    (old new : Option (List ℕ)) → IsTimelineTo stuck run.report.records.items told → AreLost run stuck told lost →
+    (old new : Option (List ℕ)) → IsTold run stuck told → AreLost run stuck told lost →
     BreaksOff old new (msc_text (string_bytes run.tree.name.text) run.system told stuck lost run.report) →
     FailsToDraw (fault_of why) forms.Msc run old new
 text_fails why run stuck told lost old new is are off = fails why
@@ -77,7 +81,7 @@ text_fails why run stuck told lost old new is are off = fails why
     begun = record {
       stuck = stuck;
       text = text_of run stuck told lost;
-      chart = record { told = told; is_timeline = is; says = ap (text_of run stuck told) are };
+      chart = record { told = told; is_order = is; says = ap (text_of run stuck told) are };
       breaks = off;
     }
 

@@ -2,19 +2,20 @@
 use Rattle.std.specs.Prelude.{ℕ, ◌⊎◌, List, Option}
 use Rattle.std.specs.Io.KnownBytes.{Appends, Keeps}
 use Rattle.std.specs.String.{string_bytes}
-use Rattle.sdl_engine.specs.Views.{IsInOrder, lost_to}
+use Rattle.sdl_engine.specs.Views.{IsInOrder}
 use Rattle.sdl_engine.specs.declared.options.TextFault.{TextFault}
 use Rattle.sdl_engine.specs.declared.options.TextFault.TheVariants as faults
 use Rattle.sdl_engine.specs.declared.run.Run.{Run}
 use Rattle.sdl_report.specs.Gathered.{BreaksOff}
 use Rattle.view_msc.specs.MscText.{msc_text}
+use Rattle.view_run.specs.Order.{lost_to}
 use Rattle.sdl_views.specs.declared.form.Form.{Form}
 use Rattle.sdl_views.specs.declared.form.Form.TheVariants as forms
 
 -- A text of Z.120 is that of a timeline of the run, by the name of its system, up to the instance that can't go on, if one
 -- can't. Of a picture nothing is said.
 abbrev pub IsChart : Form → Run → Option ℕ → List ℕ → Type 0
-IsChart forms.Msc run stuck text = IsInOrder run.report.records.items
+IsChart forms.Msc run stuck text = IsInOrder run.has_workers run.system run.script.lines.items run.report
     (λ told. msc_text (string_bytes run.tree.name.text) run.system told stuck
     (lost_to stuck run.system run.report told run.script.lines.items) run.report) stuck text
 IsChart other run stuck text = Unit {0}

@@ -9,5 +9,5 @@ use Rattle.view_steps.specs.Walk.{all_steps}
 -- timeline of the run, up to the instance that can't go on, if one can't.
 abbrev pub SaysSent : Bool → Run → Option ℕ → List ℕ → Type 0
 SaysSent true run stuck text = (stuck ≡ None) × (text ≡ outputs_by_sender run.system run.report.records.items)
-SaysSent false run stuck text = IsInOrder run.report.records.items
-    (λ told. outputs_of run.system 0 (all_steps run.report.records.items told)) stuck text
+SaysSent false run stuck text = IsInOrder run.has_workers run.system run.script.lines.items run.report
+    (λ told. outputs_of run.system (all_steps run.report.records.items told)) stuck text

@@ -73,6 +73,7 @@ fn notes_of<'t>(rt: &HostRuntime, task: &'t Task) -> Notes<'t, Message> {
         failed: false,
         stuck: None,
         keeps: keeps_run(task),
+        keeps_course: task.chart.is_some(),
         run: None,
         texts: None,
     }

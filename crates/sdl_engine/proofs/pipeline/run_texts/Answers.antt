@@ -1,3 +1,4 @@
+use Rattle.std.proofs.Common.{◌∙◌}
 use Rattle.sdl_tree.specs.Views.{tree_value}
 use Rattle.sdl_engine.specs.Answer.{workers_by}
 use Rattle.sdl_engine.specs.declared.options.Command.TheVariants as command
@@ -27,3 +28,9 @@ returns-in-Err-clause-err g c =
       lines = taken.script.lines.items;
       accepted = c.in_ok-accepted.ensures.ok;
     })
+
+pub returns-in-Ok-clause-off : goal.returns-in-Ok-clause-off
+returns-in-Ok-clause-off g c = λ none. c.into_run.ensures.course ∙ c.in-Ok.ensures.off none
+
+pub returns-in-Ok-clause-rows : goal.returns-in-Ok-clause-rows
+returns-in-Ok-clause-rows g c = rw (c.into_run.ensures.course, c.into_run.ensures.report) c.in-Ok.ensures.rows

@@ -12,11 +12,11 @@ returns-in_err-write_json-clause-err g c =
     let run = c.args.run.now in
     let order = c.in_ok-order.order in
     let text_of = json_text run.system run.report order.told order.stuck in
-    rw (p.1, p.2) (view_fails _ views.Json run.system run.report run.script.lines.items order.stuck
+    rw (p.1, p.2) (view_fails _ views.Json run.has_workers run.system run.report run.script.lines.items order.stuck
     (text_of (map sending_value c.deref.result.now)) _ _
     (record {
       told = order.told;
-      is_timeline = c.in_ok-order.ensures.told;
+      is_order = c.in_ok-order.ensures.told;
       says = ap (λ lost. text_of (map sending_value lost)) c.deref.ensures.value
           ∙ ap text_of c.in_ok-order.ensures.lost;
     })
@@ -31,7 +31,7 @@ returns-clause-ok g c =
       text = text_of (map sending_value c.deref.result.now);
       says = record {
         told = order.told;
-        is_timeline = c.in_ok-order.ensures.told;
+        is_order = c.in_ok-order.ensures.told;
         says = ap (λ lost. text_of (map sending_value lost)) c.deref.ensures.value
             ∙ ap text_of c.in_ok-order.ensures.lost;
       };

@@ -15,11 +15,11 @@ returns-in_err-write_lines-clause-err g c =
     let text_of = lines_text run.system run.report order.told order.stuck in
     let sent = signals_of run.script.lines.items in
     let lost = map sending_value c.deref.result.now in
-    rw (p.1, p.2) (view_fails _ views.Lines run.system run.report run.script.lines.items order.stuck
+    rw (p.1, p.2) (view_fails _ views.Lines run.has_workers run.system run.report run.script.lines.items order.stuck
     (text_of c.signals_of.result lost) _ _
     (record {
       told = order.told;
-      is_timeline = c.in_ok-order.ensures.told;
+      is_order = c.in_ok-order.ensures.told;
       says = ap (λ n. text_of n lost) c.signals_of.ensures
           ∙ ap (λ l. text_of sent (map sending_value l)) c.deref.ensures.value
           ∙ ap (text_of sent) c.in_ok-order.ensures.lost;
@@ -37,7 +37,7 @@ returns-clause-ok g c =
       text = text_of c.signals_of.result lost;
       says = record {
         told = order.told;
-        is_timeline = c.in_ok-order.ensures.told;
+        is_order = c.in_ok-order.ensures.told;
         says = ap (λ n. text_of n lost) c.signals_of.ensures
             ∙ ap (λ l. text_of sent (map sending_value l)) c.deref.ensures.value
             ∙ ap (text_of sent) c.in_ok-order.ensures.lost;

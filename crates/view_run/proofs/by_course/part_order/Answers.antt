@@ -1,0 +1,50 @@
+use Rattle.std.proofs.Common.{subst}
+use Rattle.view_order.specs.Parts.{IsStuck, IsUntold}
+use Rattle.view_run.proofs.OrderLaws.{all_as_far, as_far, parts_begun}
+use Rattle.view_run.proofs.by_course.part_order.Goals as goal
+
+pub returns-in-Ok-clause-told : goal.returns-in-Ok-clause-told
+returns-in-Ok-clause-told c =
+    let records = c.args.report.now.records.items in
+    all_as_far c.args.system.now c.args.script.now.lines.items c.args.report.now c.args.tellers.now c.in-Ok.told
+    c.requires c.in-Ok.ensures.each_once c.in-Ok.ensures.order (record {
+      parts = c.in-Ok.ensures.each_once.parts;
+      longest = c.in-Ok.ensures.longest;
+      begun = parts_begun records c.in-Ok.told c.in-Ok.ensures.each_once;
+      forward = c.in-Ok.ensures.forward;
+      arrows = c.in-Ok.ensures.arrows;
+      all_takes = c.in-Ok.ensures.all_takes;
+      in_order = c.in-Ok.ensures.in_order;
+      waiting = c.in-Ok.ensures.waiting;
+      looked_up = c.in-Ok.ensures.looked_up;
+      else_unlinked = c.in-Ok.ensures.else_unlinked;
+      living = c.in-Ok.ensures.living;
+    })
+
+pub returns-in-Ok-clause-parts : goal.returns-in-Ok-clause-parts
+returns-in-Ok-clause-parts c = c.in-Ok.ensures.each_once.parts
+
+pub returns-in-Ok-clause-begun : goal.returns-in-Ok-clause-begun
+returns-in-Ok-clause-begun c = parts_begun c.args.report.now.records.items c.in-Ok.told c.in-Ok.ensures.each_once
+
+pub returns-in-Err-Stuck-clause-told : goal.returns-in-Err-Stuck-clause-told
+returns-in-Err-Stuck-clause-told c =
+    let report = c.args.report.now in
+    let stuck : IsStuck report.records.items c.args.tellers.now c.in-Err-Stuck.told c.in-Err-Stuck.number =
+    subst (IsUntold report.records.items c.args.tellers.now) c.in-Err-Stuck.field-0-is c.in-Err-Stuck.ensures.untold in
+    as_far c.args.system.now c.args.script.now.lines.items report c.args.tellers.now c.in-Err-Stuck.told
+    c.in-Err-Stuck.number c.requires stuck
+
+pub returns-in-Err-Stuck-clause-parts : goal.returns-in-Err-Stuck-clause-parts
+returns-in-Err-Stuck-clause-parts c =
+    let records = c.args.report.now.records.items in
+    let stuck : IsStuck records c.args.tellers.now c.in-Err-Stuck.told c.in-Err-Stuck.number =
+    subst (IsUntold records c.args.tellers.now) c.in-Err-Stuck.field-0-is c.in-Err-Stuck.ensures.untold in
+    stuck.says.parts
+
+pub returns-in-Err-Stuck-clause-begun : goal.returns-in-Err-Stuck-clause-begun
+returns-in-Err-Stuck-clause-begun c =
+    let records = c.args.report.now.records.items in
+    let stuck : IsStuck records c.args.tellers.now c.in-Err-Stuck.told c.in-Err-Stuck.number =
+    subst (IsUntold records c.args.tellers.now) c.in-Err-Stuck.field-0-is c.in-Err-Stuck.ensures.untold in
+    stuck.says.begun
