@@ -72,6 +72,7 @@ pub fn silent_notes(alloc: Global) -> Notes<'static, Vec<u8>> {
         failed: false,
         stuck: None,
         keeps: false,
+        keeps_course: false,
         run: None,
         texts: None,
     }

@@ -46,6 +46,7 @@ fn notes(alloc: Global, text: &str, keeps: bool) -> Notes<'static, Vec<u8>> {
         failed: false,
         stuck: None,
         keeps,
+        keeps_course: true,
         run: None,
         texts: None,
     };

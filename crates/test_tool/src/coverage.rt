@@ -9,6 +9,8 @@ use sdl_engine::{
 use sdl_views::{ToldRun, cover, draw};
 use std::alloc::Global;
 use std::process::Abort;
+use std::sync::Wait;
+use std::thread::Threads;
 use view_chart::Selection;
 use view_covered::Form;
 
@@ -156,6 +158,7 @@ fn notes(alloc: Global, keeps: bool) -> Notes<'static, Vec<u8>> {
         failed: false,
         stuck: None,
         keeps,
+        keeps_course: false,
         run: None,
         texts: None,
     }
@@ -252,11 +255,33 @@ fn tells_it_of_a_run_that_is_cut(rt: HostRuntime) {
 
 #[test]
 fn knows_no_answers_of_workers(rt: HostRuntime) {
-    let mut notes = notes(rt.alloc(), true);
-    let mut written = Vec::new(rt.alloc());
+    let notes = told_by_workers(&rt, rt.alloc(), false);
+    let plain = covered(&rt, rt.alloc(), &notes, &BY_WORKERS, Form::Plain);
+    assert!(rt; plain.as_slice() == ON_THREADS.as_bytes());
+}
+
+/// Who tells only what a run covered has no use for its course.
+#[test]
+fn keeps_a_course_where_asked(rt: HostRuntime) {
+    for keeps_course in [false, true] {
+        let notes = told_by_workers(&rt, rt.alloc(), keeps_course);
+        let course = notes.run.as_ref().and_then(|run| run.course.as_ref());
+        assert!(rt; course.is_some() == keeps_course);
+    }
+}
+
+/// The notes of a run with workers that is kept, with its course or without.
+fn told_by_workers<R: Abort + Wait + Threads + Sync>(
+    rt: &R,
+    alloc: Global,
+    keeps_course: bool,
+) -> Notes<'static, Vec<u8>> {
+    let mut notes = notes(alloc, true);
+    notes.keeps_course = keeps_course;
+    let mut written = Vec::new(alloc);
     let outcome = run_and_note(
-        &Threaded::new(&rt),
-        rt.alloc(),
+        &Threaded::new(rt),
+        alloc,
         &mut source(TEXT),
         &mut written,
         &mut notes,
@@ -264,8 +289,7 @@ fn knows_no_answers_of_workers(rt: HostRuntime) {
         Nobody,
     );
     assert!(rt; outcome == Ok(Outcome::Whole));
-    let plain = covered(&rt, rt.alloc(), &notes, &BY_WORKERS, Form::Plain);
-    assert!(rt; plain.as_slice() == ON_THREADS.as_bytes());
+    notes
 }
 
 /// A run that is covered can be drawn, too.

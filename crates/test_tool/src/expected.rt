@@ -132,6 +132,7 @@ fn run_of(rt: &impl Abort, alloc: Global) -> Run {
         failed: false,
         stuck: None,
         keeps: true,
+        keeps_course: true,
         run: None,
         texts: None,
     };

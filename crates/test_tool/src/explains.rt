@@ -48,6 +48,7 @@ fn explaining<N>(writer: N) -> Notes<'static, N> {
         failed: false,
         stuck: None,
         keeps: false,
+        keeps_course: false,
         run: None,
         texts: None,
     }

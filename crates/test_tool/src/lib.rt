@@ -34,6 +34,8 @@ mod failures;
 #[cfg(test)]
 mod files;
 #[cfg(test)]
+mod orders;
+#[cfg(test)]
 mod own_script;
 #[cfg(test)]
 mod prefixes;

@@ -13,6 +13,8 @@ mod heard;
 #[cfg(test)]
 mod orders;
 #[cfg(test)]
+mod parts;
+#[cfg(test)]
 mod pictures;
 #[cfg(test)]
 mod relay;

@@ -2,7 +2,7 @@
 
 ghost use Rattle.std.specs.Prelude.{IfSome};
 ghost use Rattle.std.specs.List.{AllByRecursion};
-ghost use Rattle.view_timeline.specs.Moves.{IsMove};
+ghost use Rattle.view_timeline.specs.Moves.{IsPart};
 ghost use Rattle.view_timeline.specs.Timeline.{AreBegun};
 
 use run_record::Report;
@@ -16,6 +16,7 @@ use std::process::Abort;
 use view_json::write_json;
 use view_lines::write_lines;
 use view_msc::write_msc;
+use view_order::timeline_in;
 use view_timeline::{Timeline, Untold, timeline};
 
 static LIMIT: u64 = 1_000_000;
@@ -41,11 +42,28 @@ struct Order {
 
 /// A timeline of a report, as far as it goes, if there is memory for it.
 fn order_of(alloc: Global, report: &Report) -> Option<Order>
-    ensures transitions { IfSome result (λ order.
-        AllByRecursion (IsMove report.now.records.items) order.told.moves.items) }
+    ensures parts { IfSome result (λ order.
+        AllByRecursion (IsPart report.now.records.items) order.told.moves.items) }
     ensures begun { IfSome result (λ order. AreBegun report.now.records.items order.told) }
 {
     match timeline(alloc, report) {
+        Ok(told) => Some(Order { told, stuck: None }),
+        Err(Untold::Stuck { told, number }) => Some(Order {
+            told,
+            stuck: Some(number),
+        }),
+        Err(Untold::Memory) => None,
+    }
+}
+
+/// A timeline of a report in which the events of these instances come one after the other, as far as it goes, if there
+/// is memory for it.
+fn order_in(alloc: Global, report: &Report, tellers: &[u32]) -> Option<Order>
+    ensures parts { IfSome result (λ order.
+        AllByRecursion (IsPart report.now.records.items) order.told.moves.items) }
+    ensures begun { IfSome result (λ order. AreBegun report.now.records.items order.told) }
+{
+    match timeline_in(alloc, report, tellers) {
         Ok(told) => Some(Order { told, stuck: None }),
         Err(Untold::Stuck { told, number }) => Some(Order {
             told,
@@ -61,6 +79,49 @@ pub fn in_lines(alloc: Global, system: &System, report: &Report, sent: usize) ->
     let (told, stuck) = (&order.told, order.stuck);
     let mut written = Vec::new(alloc);
     let done = write_lines(alloc, report, told, stuck, sent, &[], system, &mut written);
+    if done.is_ok() { Some(written) } else { None }
+}
+
+/// The lines of a report in which the events of these instances come one after the other, if they can be written.
+pub fn in_lines_by(
+    alloc: Global,
+    system: &System,
+    report: &Report,
+    tellers: &[u32],
+) -> Option<Vec<u8>> {
+    let order = order_in(alloc, report, tellers)?;
+    let (told, stuck) = (&order.told, order.stuck);
+    let mut written = Vec::new(alloc);
+    let done = write_lines(alloc, report, told, stuck, 0, &[], system, &mut written);
+    if done.is_ok() { Some(written) } else { None }
+}
+
+/// The JSON of a report in which the events of these instances come one after the other, if it can be written.
+pub fn in_json_by(
+    alloc: Global,
+    system: &System,
+    report: &Report,
+    tellers: &[u32],
+) -> Option<Vec<u8>> {
+    let order = order_in(alloc, report, tellers)?;
+    let (told, stuck) = (&order.told, order.stuck);
+    let mut written = Vec::new(alloc);
+    let done = write_json(alloc, report, told, stuck, &[], system, &mut written);
+    if done.is_ok() { Some(written) } else { None }
+}
+
+/// The text of Z.120 of a report in which the events of these instances come one after the other, if it can be written.
+pub fn in_msc_by(
+    alloc: Global,
+    name: &str,
+    system: &System,
+    report: &Report,
+    tellers: &[u32],
+) -> Option<Vec<u8>> {
+    let order = order_in(alloc, report, tellers)?;
+    let (told, stuck) = (&order.told, order.stuck);
+    let mut written = Vec::new(alloc);
+    let done = write_msc(alloc, name, system, told, stuck, &[], report, &mut written);
     if done.is_ok() { Some(written) } else { None }
 }
 
