@@ -1,9 +1,9 @@
 """Runs on threads, soaked: random specifications, the examples and some cases, each report judged (`tools/judge`).
 
 Each run is drawn by lot from its own seed: the text, how many workers, on how many processors, the limit, and whether
-its order is told. An order may be stuck if a transition sends to what is created because of what it sent before: only
-single events have an order then. Such orders are counted as circles. In some runs all instances are always able to
-step; there each must have had its turn."""
+its order is told, which must go to its end. How often a transition goes on in one, once others were told, is counted.
+In some runs all instances are always able to step; there each must have had its turns, unless a worker that the
+system didn't run was at its step."""
 
 import os
 import re
@@ -17,7 +17,7 @@ from pathlib import Path
 from random import Random
 
 from judging.reports import CASES, DATA, of_examples, of_file
-from judging.turns import always_able, judge_turns
+from judging.turns import always_able, short_of_turns
 from judging.verdict import judge
 from soaking import told, trace
 from soaking.trace import Wrong, demand
@@ -27,6 +27,8 @@ LIMITS = (1, 5, 20, 100, 400, 400, 3_000)
 # Of so many instances that are always able to step, with limits that leave the system time for all threads.
 ABLE = ((2, 200_000), (3, 200_000), (600, 100_000))
 ABLE_SHARE, KNOWN_SHARE = 0.02, 0.35
+# In so many runs of one text somebody comes short of its turns only if the program passes over it.
+SHORT = 3
 FILES = ("features", "runs", "protocols", "edges", "routes")
 REFUSES_OPTIONS, SOON, FAULT = 4, 0.2, 3
 STUCK_NOTE = re.compile(rb"sdlrun: the order isn't known from instance #\d+ on\n")
@@ -178,13 +180,24 @@ class ThreadSoak:
             # The judge would take long, and the same text with a lower limit says as much.
             self.tally["always able"] += 1
             demand(ran.is_cut, "whole, though all were always able to step")
-            judge_turns(ran, job.limit)
+            self.judge_turns(job, ran)
         else:
             judge(job.text, report, job.limit)
         if job.is_ordered:
             demand(answer.order is not None, "no file has the order")
             self.tally["orders"] += 1
-            self.tally["circles"] += told.judge(told.read(answer.order), ran, job.knows_numbers())
+            self.tally["gone on"] += told.judge(told.read(answer.order), ran, job.knows_numbers())
+
+    def judge_turns(self, job: Job, ran: trace.Trace) -> None:
+        """Demands that each instance had its turns. Who came short may have been with a thread that the system didn't
+        run. So the run is made again then: that happens by chance, and whom the program passes over, each time."""
+        for _ in range(SHORT):
+            short = short_of_turns(ran, job.limit)
+            if short is None:
+                return
+            self.tally["short"] += 1
+            ran = trace.read(self.run(job).report)
+        raise Wrong(f"in each of {SHORT} runs somebody came short, last {short}")
 
     def wrong(self, job: Job, report: str, what: str) -> None:
         """Tells what is wrong, and keeps the text and the report: the same run need not come again."""
@@ -197,6 +210,7 @@ class ThreadSoak:
             (self.keep / f"{stem}.report").write_text(report)
 
     def told(self) -> str:
-        kinds = ("runs", "whole", "cut", "always able", "long", "Lost", "Memory", "hang", "wrong", "transitions", "orders", "circles")
+        kinds = ("runs", "whole", "cut", "always able", "short", "long", "Lost", "Memory", "hang", "wrong")
+        kinds += ("transitions", "orders", "gone on")
         workers = ", ".join(f"{self.by_workers[number]} with {number}" for number in WORKERS)
         return ", ".join(f"{self.tally[kind]} {kind}" for kind in kinds) + f"; workers: {workers}"

@@ -1,6 +1,7 @@
 """The order of a run with workers, as its text of Z.120 tells it, judged by the trace of the same run.
 
-The text says whose each move is, and of each output whether it was taken. What is in a move the trace knows."""
+The text says whose each move is, how many events of its record it has, and of each output whether it was taken. What
+these events are the trace knows. A transition may be told in parts, with parts of others between them."""
 
 import re
 from collections import deque
@@ -9,6 +10,8 @@ from dataclasses import dataclass, field
 from soaking.trace import BEGINS, CLOSES, CONSUMED, Trace, demand
 
 MOVE = re.compile(r"(\w+)_(\d+): (.*)")
+# A statement of a move. In a comment or an action there may be a semicolon.
+STATEMENT = re.compile(r"(?:[^;']|'[^']*')+;")
 SENT = re.compile(r"(?<![\w'])out [^;]*?(,m\d+)?(?:\([^;]*\))? to [^;]*;")
 LAST = re.compile(r"endmsc; /\* end (\d+) (whole|cut)(; order not known from #(\d+) on)? \*/")
 OUTPUT = re.compile(r"  output (\S+) to #(\d+)")
@@ -17,11 +20,28 @@ ENDS = ("  stop", "  failed")
 
 
 @dataclass
-class Told:
-    """Whose moves come one after the other, with the outputs of each: whether they are taken. And who is stuck."""
+class Part:
+    """A transition or a part of one, or how a record closes: whose it is, how many events it has, and of its outputs
+    whether they are taken."""
 
-    moves: list[tuple[int, list[bool]]]
+    own: int
+    events: int
+    outputs: list[bool]
+
+
+@dataclass
+class Told:
+    """The parts, one after the other. And who is stuck."""
+
+    parts: list[Part]
     stuck: int | None
+
+
+def events_in(text: str) -> int:
+    """How many events of a record these statements are: a start has two of them, and so has a failure."""
+    statements = STATEMENT.findall(text)
+    doubled = [it for it in statements if it.lstrip().startswith(("instance process ", "action 'failed "))]
+    return len(statements) - len(doubled)
 
 
 def read(text: str) -> Told:
@@ -30,13 +50,13 @@ def read(text: str) -> Told:
     end = LAST.fullmatch(last)
     demand(end, f"not the last line of a text of Z.120: {last}")
     found = [MOVE.fullmatch(line) for line in lines if MOVE.fullmatch(line)]
-    moves = [(int(it[2]), [bool(arrow) for arrow in SENT.findall(it[3])]) for it in found]
-    return Told(moves, int(end[4]) if end[4] else None)
+    parts = [Part(int(it[2]), events_in(it[3]), [bool(arrow) for arrow in SENT.findall(it[3])]) for it in found]
+    return Told(parts, int(end[4]) if end[4] else None)
 
 
 @dataclass
 class Move:
-    """A transition, or how a record closes: when it begins, if it does, and its lines."""
+    """A transition, or how a record closes: when it begins, if it does, and its lines that aren't told."""
 
     time: int | None
     lines: list[str]
@@ -116,75 +136,46 @@ class Replay:
             self.waiting.setdefault(row, deque()).append((sent[1], fate))
         return fate
 
-    def tell(self, own: int) -> list[list[bool]]:
-        """Tells the next move of an instance, as an order has it: nothing hinders a part of it."""
-        demand(self.left.get(own), f"the order has a move of #{own} that the trace doesn't have")
+    def tell(self, part: Part) -> list[list[bool]]:
+        """Tells the next events of an instance, all of one transition, as an order has it: nothing hinders one."""
+        own, left = part.own, self.left.get(part.own)
+        demand(left, f"the order has a move of #{own} that the trace doesn't have")
+        lines = left[0].lines
+        demand(part.events <= len(lines), f"a move of #{own} has {part.events} events, of which {len(lines)} are left")
         fates = []
-        for line in self.left[own].popleft().lines:
+        for _ in range(part.events):
+            line = lines.pop(0)
             why = self.hinders(own, line)
             demand(why is None, f"by the order {why}")
             fate = self.do(own, line)
             fates += [] if fate is None else [fate]
+        if not lines:
+            left.popleft()
         return fates
 
-    def may_tell(self, own: int, latest: int) -> bool:
-        """Whether an instance can make its next transition as a whole."""
-        move = self.left[own][0] if self.left[own] else None
-        if move is None or move.time is None or move.time < latest or self.hinders(own, move.lines[0]):
-            return False
-        begun = set(self.begun)
-        for line in move.lines:
-            if made := CREATE.fullmatch(line):
-                begun.add(int(made[1]))
-            sent = OUTPUT.fullmatch(line)
-            if sent and int(sent[2]) not in begun and not self.knows_numbers:
-                return False
-        return True
-
-    def is_told_by_events(self) -> bool:
-        """Whether all can be told one event after the other, where whole transitions can't."""
-        while times := [moves[0].time for moves in self.left.values() if moves and moves[0].time is not None]:
-            if not self.goes_on(min(times)):
-                return False
-        return True
-
-    def goes_on(self, time: int) -> bool:
-        """Does what can be done now: what has begun, and what begins at this time."""
-        went = False
-        for own, moves in self.left.items():
-            while moves and moves[0].lines and self.may_go_on(own, moves[0], time):
-                self.do(own, moves[0].lines.pop(0))
-                went = True
-                if not moves[0].lines:
-                    moves.popleft()
-        return went
-
-    def may_go_on(self, own: int, move: Move, time: int) -> bool:
-        begins = BEGINS.fullmatch(move.lines[0])
-        return (not begins or move.time == time) and not CLOSES.fullmatch(move.lines[0]) and (
-            self.hinders(own, move.lines[0]) is None
-        )  # fmt: skip
+    def goes_on(self, own: int) -> bool:
+        """Whether the next event of an instance is one with which a transition goes on."""
+        left = self.left.get(own)
+        return bool(left) and not BEGINS.fullmatch(left[0].lines[0]) and not CLOSES.fullmatch(left[0].lines[0])
 
 
-def judge(told: Told, trace: Trace, knows_numbers: bool) -> bool:
-    """Demands of an order what it promises. Whether it is stuck since only single events have an order."""
-    replay, known, latest = Replay.of(trace, knows_numbers), [], 0
-    for own, outputs in told.moves:
+def judge(told: Told, trace: Trace, knows_numbers: bool) -> int:
+    """Demands of an order what it promises. How often a transition goes on in it, once others were told."""
+    replay, known, latest, went_on = Replay.of(trace, knows_numbers), [], 0, 0
+    for part in told.parts:
+        own = part.own
         moves = replay.left.get(own)
         time = moves[0].time if moves else None
         demand(time is None or latest <= time, f"by the order #{own} goes back in time to {time}")
         latest = latest if time is None else time
-        fates = replay.tell(own)
-        demand(len(fates) == len(outputs), f"a move of #{own} has {len(outputs)} outputs, and not {len(fates)}")
-        known += zip([own] * len(fates), fates, outputs)
+        went_on += replay.goes_on(own)
+        fates = replay.tell(part)
+        outputs = len(part.outputs)
+        demand(len(fates) == outputs, f"a move of #{own} has {outputs} outputs, and not {len(fates)}")
+        known += zip([own] * len(fates), fates, part.outputs)
     for own, fate, is_taken in known:
         demand(is_taken == bool(fate), f"an output of #{own} is told as {'taken' if is_taken else 'lost'}")
-    if told.stuck is None:
-        lost = [own for own, moves in replay.left.items() if moves]
-        demand(not lost, f"the order has lost transitions of {', '.join(f'#{own}' for own in lost)}")
-        return False
-    demand(replay.left.get(told.stuck), f"the order ends at #{told.stuck}, of which nothing is left")
-    able = [own for own in replay.left if replay.may_tell(own, latest)]
-    demand(not able, f"the order ends at #{told.stuck}, and {', '.join(f'#{own}' for own in able)} can go on")
-    demand(replay.is_told_by_events(), f"the order is stuck at #{told.stuck}, and no single events are to blame")
-    return True
+    demand(told.stuck is None, f"the order isn't known from #{told.stuck} on")
+    lost = [own for own, moves in replay.left.items() if moves]
+    demand(not lost, f"the order has lost events of {', '.join(f'#{own}' for own in lost)}")
+    return went_on
