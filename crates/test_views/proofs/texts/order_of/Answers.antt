@@ -1,6 +1,7 @@
 -- The moves of each record are its entries up to the last one, and each is a part of a transition.
-use Rattle.std.proofs.Common.{arith, length}
+use Rattle.std.proofs.Common.{arith, length, subst}
 use Rattle.view_timeline.proofs.PartLemmas.{parts-whole}
+use Rattle.view_timeline.specs.Timeline.{IsStuck, IsUntold}
 use Rattle.test_views.proofs.texts.order_of.Goals as goal
 
 pub returns-in-Ok-clause-parts : goal.returns-in-Ok-clause-parts
@@ -14,6 +15,9 @@ returns-in-Ok-clause-begun c = λ place trace there. record {
   whole = c.in-Ok.ensures.each_once.whole place trace there;
 }
 
-pub returns-in-Stuck-clause-parts : goal.returns-in-Stuck-clause-parts
-returns-in-Stuck-clause-parts c =
-    parts-whole c.args.report.now.records.items c.in-Stuck.told.moves.items c.in-Stuck.ensures.transitions
+pub returns-in-Err-Stuck-clause-parts : goal.returns-in-Err-Stuck-clause-parts
+returns-in-Err-Stuck-clause-parts c =
+    let records = c.args.report.now.records.items in
+    let stuck : IsStuck records c.in-Err-Stuck.told c.in-Err-Stuck.number =
+    subst (IsUntold records) c.in-Err-Stuck.field-0-is c.in-Err-Stuck.ensures.untold in
+    parts-whole records c.in-Err-Stuck.told.moves.items stuck.transitions
