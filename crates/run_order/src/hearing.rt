@@ -28,7 +28,8 @@ impl<'s> Replay<'s> {
     /// none is due. Nothing has changed then. For lack of memory nothing is known of the run any more.
     pub fn expire(&mut self) -> Result<Option<u32>, AllocError>
         ensures leads { IfOk result (λ expired. LeadsIf (is_some expired) self.old.order [] Around self.new.order) }
-        ensures none { IfOk result (λ expired. IfNone expired (IsNoFuseBefore self.old.order.until self.old.order.fuses)) }
+        ensures none { IfOk result (λ expired. IfNone expired
+            (IsNoFuseBefore self.old.order.until self.old.order.fuses)) }
         ensures number { IfOk result (λ expired. IfSome expired (IsFirstFuseOf self.old.order.fuses)) }
         ensures fixed { IsFixed self.old.order self.new.order }
     {

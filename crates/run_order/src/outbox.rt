@@ -68,7 +68,8 @@ impl Outbox {
         effects: &mut Effects,
     ) -> Result<bool, AllocError>
         requires { self.old ≡ [] }
-        ensures fit { IfOk result (λ fit. fit ≡ fits (acts_of (drop from trace.now.events)) (map effect_of effects.old.items)) }
+        ensures fit { IfOk result (λ fit. fit
+            ≡ fits (acts_of (drop from trace.now.events)) (map effect_of effects.old.items)) }
         ensures filled { IfOk result (λ fit. IsTrue fit
             → self.new ≡ behind_first (woven (acts_of (drop from trace.now.events)) (map effect_of effects.old.items))) }
     {
@@ -100,7 +101,8 @@ impl Outbox {
         effects: &mut Effects,
     ) -> Result<bool, AllocError>
         requires { self.old ≡ [] }
-        ensures fit { IfOk result (λ fit. fit ≡ fits (acts_of (drop from trace.now.events)) (map effect_of effects.old.items)) }
+        ensures fit { IfOk result (λ fit. fit
+            ≡ fits (acts_of (drop from trace.now.events)) (map effect_of effects.old.items)) }
         ensures filled { IfOk result (λ fit. IsTrue fit
             → self.new ≡ woven (acts_of (drop from trace.now.events)) (map effect_of effects.old.items)) }
     {
@@ -115,8 +117,8 @@ impl Outbox {
     }
 }
 
-/// The events of a record after so many. Those before are read only if the others aren't of one time, which those of one
-/// step are: so a step takes no longer at the end of a long record.
+/// The events of a record after so many. Those before are read only if the others aren't of one time. Those of a step
+/// are, so a step takes no longer at the end of a long record.
 fn events_from(trace: &Record, from: usize) -> Reader<'_>
     ensures { result ≡ drop from trace.now.events }
 {
