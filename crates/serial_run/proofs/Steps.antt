@@ -1,5 +1,5 @@
 -- A step of an instance is a step of the whole.
-use Rattle.std.proofs.Common.{◌≡◌, ◌≢◌, ◌∙◌, ◌+◌, ◌<◌, ◌++◌, Bool, true, false, cond, ℕ, suc, List, [], ◌∷◌, Option, None, Some, refl, sym, ap, subst, arith, slice_get, set, length, map, append-nil, append_assoc}
+use Rattle.std.proofs.Common.{◌≡◌, ◌≢◌, ◌∙◌, ◌+◌, ◌-◌, ◌<◌, ◌++◌, Bool, true, false, cond, ℕ, suc, List, [], ◌∷◌, Option, None, Some, refl, sym, ap, subst, arith, slice_get, set, length, length-append, map, replicate, append-nil, append_assoc}
 use Rattle.std.specs.Option.{option_map}
 use Rattle.port_inbox.specs.Ends.{OwnerState, single}
 use Rattle.port_inbox.specs.declared.entry.Fuse.{Fuse}
@@ -26,7 +26,8 @@ use Rattle.sdl_interp.specs.Stimulus.{WaitsAt}
 use Rattle.run_semantics.proofs.Acting.{runs_effects}
 use Rattle.run_semantics.proofs.Deeds.{after_deeds-effects}
 use Rattle.run_semantics.proofs.Outside.{outside_of-append}
-use Rattle.run_semantics.specs.Effect.{Effect, Arm, Create, Deed, Send, effects_of}
+use Rattle.run_record.specs.Event.{Event}
+use Rattle.run_semantics.specs.Effect.{Effect, Arm, Create, Deed, Send, effects_of, events_of}
 use Rattle.run_semantics.specs.Goes.{Goes, IsOneStep, MachineValue, drawn_as}
 use Rattle.run_semantics.specs.Leads.{IsQuiet}
 use Rattle.run_semantics.specs.ControlPoint.{Definition, ControlPoint}
@@ -34,7 +35,8 @@ use Rattle.run_semantics.specs.Runs.{Runs, acts, hears, outside_of, still, turns
 use Rattle.run_semantics.specs.World as world
 use Rattle.run_semantics.specs.World.{WorldValue}
 use Rattle.serial_run.specs.Clearing.{advances_cleared}
-use Rattle.serial_run.specs.ExecutionLaws.{stays}
+use Rattle.serial_run.specs.ExecutionLaws.{stays_noted}
+use Rattle.serial_run.specs.Told.{NotesThese, NotesTurn}
 use Rattle.serial_run.proofs.Places.{set_there}
 use Rattle.serial_run.specs.Meanings.{Meaning, all_at, meaning_at, nothing_due, turn_by, turn_with}
 use Rattle.serial_run.proofs.Refusals.{counts_is, refused_effects}
@@ -125,7 +127,8 @@ pub record Made (ready : List ℕ) (m : Moment) (s : Instances) (place number bo
 
 module _ (ready : List ℕ) (m n : Moment) (s t : Instances) (place number bound : ℕ) (old new : InstanceValue)
     (v : WorldValue) (performed : List Effect) (made : Made ready m s place number bound old new v performed) (last : ℕ)
-    (ps : List Behaviour) (behaviours : AreBehaviours s.system.now ps) where
+    (k l : Option (List ℕ)) (noted : NotesTurn number old new k l) (ps : List Behaviour)
+    (behaviours : AreBehaviours s.system.now ps) where
   found : Meaning ps old
   found = meaning_at ps s place old behaviours made.serial made.is_there
 
@@ -141,6 +144,14 @@ module _ (ready : List ℕ) (m n : Moment) (s t : Instances) (place number bound
 
   pid_is : old.who.pid ≡ suc place
   pid_is = (in_place 0 s.instances.items place old made.serial.places made.is_there).0 ∙ omega arith
+
+  -- it has as many events more as the deeds have
+  more_events : (deeds : List Deed) → new.events ≡ old.events ++ events_of deeds
+      → length new.events - length old.events ≡ length (events_of deeds)
+  more_events deeds recorded =
+      let all = ap (λ (events : List Event). length events) recorded in
+      let two = length-append old.events (events_of deeds) in
+      omega (arith, all, two)
 
   -- the state after the step, with these fuses, before what it did outside is done
   abbrev moved : List Fuse → ℕ → RunState
@@ -170,13 +181,13 @@ module _ (ready : List ℕ) (m n : Moment) (s t : Instances) (place number bound
       → ((g : RunState) → IsThinned g (stepped m s place number bound new)
       → IsThinned (after_effects g (effects_of goes.deeds)) (state_of n t))
       → n.left + cond counts 1 0 ≡ m.left → t.system ≡ s.system → (g : RunState) → IsThinned g (state_of m s)
-      → Advances ps last m s g n t
+      → Advances ps last m s k g n t l
   goes_on counts goes now counted system =
       let counted_is = counts_is counts goes.deeds goes.shape in
       let due = nothing_due m s made.time.nothing_due in
       let transitions : n.left + cond (is_transition goes.deeds) 1 0 ≡ m.left =
       subst (λ b. n.left + cond b 1 0 ≡ m.left) (sym counted_is) counted in
-      advances_cleared ps last m n s t due.fuses (λ fuses thinned none_due.
+      advances_cleared ps last m n s t k l due.fuses (λ fuses thinned none_due.
       let whole : RunState = record (state_of m s) { fuses = fuses } in
       let to : RunState = after_effects (moved fuses old.who.pid) (effects_of goes.deeds) in
       let step : Steps ps whole old.who goes.deeds to = record {
@@ -209,6 +220,8 @@ module _ (ready : List ℕ) (m n : Moment) (s t : Instances) (place number bound
         counted = transitions;
         reached = λ spent. ap (λ b. cond b 1 0)
             (was_transition (is_transition goes.deeds) n.left m.left transitions made.time.some spent);
+        noted = subst (λ one. NotesThese k (replicate (length (events_of goes.deeds)) one) l) (number_is ∙ sym pid_is)
+            (subst (λ count. NotesThese k (replicate count number) l) (more_events goes.deeds goes.recorded) noted);
         system = system;
       })
 
@@ -217,7 +230,7 @@ module _ (ready : List ℕ) (m n : Moment) (s t : Instances) (place number bound
       → ((g : RunState) → IsThinned g (stepped m s place number bound new)
       → AreNumbered (length s.instances.items) performed → IsThinned (after_effects g performed) (state_of n t))
       → n.left + 1 ≡ m.left → t.system ≡ s.system → (g : RunState) → IsThinned g (state_of m s)
-      → Advances ps last m s g n t
+      → Advances ps last m s k g n t l
   counting moves now counted system =
       let goes = moves d found.meant.is_run in
       let effects_are = effects_done (state_of m s) v goes.deeds performed goes.world made.known in
@@ -233,7 +246,7 @@ module _ (ready : List ℕ) (m n : Moment) (s t : Instances) (place number bound
   -- what fails the instance in a state, which does nothing outside
   failing : Moves false old (world_at (state_of m s)) new v
       → state_of n t ≡ stepped m s place number bound new → n.left ≡ m.left → t.system ≡ s.system
-      → (g : RunState) → IsThinned g (state_of m s) → Advances ps last m s g n t
+      → (g : RunState) → IsThinned g (state_of m s) → Advances ps last m s k g n t l
   failing moves now counted system =
       let goes = moves d found.meant.is_run in
       let none = refused_effects d old.who (place_of old.position) (place_of new.position) old.store new.store
@@ -248,17 +261,22 @@ pub step_counts : (ready : List ℕ) (m n : Moment) (s t : Instances) (place num
     → Made ready m s place number bound old new v performed → Moves true old (world_at (state_of m s)) new v
     → ((g : RunState) → IsThinned g (stepped m s place number bound new)
     → AreNumbered (length s.instances.items) performed → IsThinned (after_effects g performed) (state_of n t))
-    → n.left + 1 ≡ m.left → t.system ≡ s.system → (last : ℕ) → Reaches last m s n t
-step_counts ready m n s t place number bound old new v performed made moves now counted system = λ last ps behaviours.
-    counting ready m n s t place number bound old new v performed made last ps behaviours moves now counted system
+    → n.left + 1 ≡ m.left → t.system ≡ s.system → (last : ℕ) (k l : Option (List ℕ))
+    → NotesTurn number old new k l → Reaches last m s k n t l
+step_counts ready m n s t place number bound old new v performed made moves now counted system =
+    λ last k l noted ps behaviours.
+    counting ready m n s t place number bound old new v performed made last k l noted ps behaviours moves now counted
+    system
 
 pub step_fails : (ready : List ℕ) (m n : Moment) (s t : Instances) (place number bound : ℕ) (old new : InstanceValue)
     (v : WorldValue) (performed : List Effect)
     → Made ready m s place number bound old new v performed → Moves false old (world_at (state_of m s)) new v
     → state_of n t ≡ stepped m s place number bound new → n.left ≡ m.left → t.system ≡ s.system
-    → (last : ℕ) → Reaches last m s n t
-step_fails ready m n s t place number bound old new v performed made moves now counted system = λ last ps behaviours.
-    failing ready m n s t place number bound old new v performed made last ps behaviours moves now counted system
+    → (last : ℕ) (k l : Option (List ℕ)) → NotesTurn number old new k l → Reaches last m s k n t l
+step_fails ready m n s t place number bound old new v performed made moves now counted system =
+    λ last k l noted ps behaviours.
+    failing ready m n s t place number bound old new v performed made last k l noted ps behaviours moves now counted
+    system
 
 -- ---- waiting
 
@@ -312,8 +330,10 @@ pub step_idles : {ready : List ℕ} (m n : Moment) (s t : Instances) (place : �
     → slice_get s.instances.items place ≡ Some old → Keeps old new → IsAlone old.owner → IsAlone new.owner
     → IsIdle old (world_at (state_of m s)) new v
     → state_of n t ≡ record (state_of m s) { instances = set s.instances.items place new } → n.left ≡ m.left
-    → t.system ≡ s.system → (last : ℕ) → Reaches last m s n t
-step_idles m n s t place old new v serial there keeps one other idle now left system = λ last ps behaviours g thinned.
+    → t.system ≡ s.system → (last number : ℕ) (k l : Option (List ℕ)) → NotesTurn number old new k l
+    → Reaches last m s k n t l
+step_idles m n s t place old new v serial there keeps one other idle now left system =
+    λ last number k l noted ps behaviours g thinned.
     let found = meaning_at ps s place old behaviours serial there in
     let work : work_of new ≡ work_of old =
     waited (record { system = old.system; behaviour = found.p }) old.position (work_of old) (work_of new)
@@ -331,7 +351,10 @@ step_idles m n s t place old new v serial there keeps one other idle now left sy
     let state : state_of n t ≡ state_of m s =
     now ∙ ap (λ xs. record (state_of m s) { instances = xs })
     (ap (set s.instances.items place) same ∙ set_there s.instances.items place old there) in
-    stays last m n s t state left system ps behaviours g thinned
+    let events : length new.events ≡ length old.events = ap (λ (i : InstanceValue). length i.events) same in
+    let none : length new.events - length old.events ≡ 0 = omega (arith, events) in
+    stays_noted last m n s t k l state left system
+    (subst (λ count. NotesThese k (replicate count number) l) none noted) ps behaviours g thinned
 
 quiet_at : (d : Definition) (position : Position) (old new : InstanceValue) (w v : WorldValue)
     → WaitsAt d position (work_of old) w (work_of new) v → Keeps old new → IsQuietAt d position new

@@ -1,5 +1,5 @@
 -- Fuses expire, and lines are heard.
-use Rattle.std.proofs.Common.{◌≡◌, ◌⊎◌, ◌+◌, ◌<◌, ◌≤◌, Bool, true, ℕ, List, ◌∷◌, ◌∙◌, inl, inr, refl, sym, ap, subst, arith}
+use Rattle.std.proofs.Common.{◌≡◌, ◌⊎◌, ◌+◌, ◌<◌, ◌≤◌, Bool, true, ℕ, List, [], ◌∷◌, ◌∙◌, Option, inl, inr, refl, sym, ap, subst, arith}
 use Rattle.std.proofs.lemmas.List.Elements.{All-head}
 use Rattle.port_inbox.specs.declared.entry.Fuse.{Fuse}
 use Rattle.sdl_timers.proofs.Thinning.{thins_all}
@@ -13,7 +13,8 @@ use Rattle.serial_instances.specs.declared.instances.Instances.{Instances}
 use Rattle.sdl_script.specs.declared.script.ScriptLine.{ScriptLine}
 use Rattle.serial_run.specs.Advances.{Reaches}
 use Rattle.serial_run.specs.Clearing.{Cleared, HasDue, advances_cleared, cleared}
-use Rattle.serial_run.specs.ExecutionLaws.{advances_one}
+use Rattle.serial_run.specs.ExecutionLaws.{advances_one, notes_none}
+use Rattle.serial_run.specs.Told.{NotesThese}
 use Rattle.serial_sweeps.specs.Sweeps.{Moment, until_of}
 
 until_is : (begun : Bool) (clock : ℕ) → begun ≡ true → until_of begun clock ≡ clock + 1
@@ -46,8 +47,9 @@ without_due g h thinned next =
 
 pub expire_reaches : (m n : Moment) (a b : Instances) (fuse : Fuse) (later : List Fuse) → m.fuses ≡ fuse ∷ later
     → m.begun ≡ true → fuse.due ≤ m.clock → state_of n b ≡ expired (record (state_of m a) { fuses = later }) fuse
-    → n.left ≡ m.left → 0 < m.left → b.system ≡ a.system → (last : ℕ) → Reaches last m a n b
-expire_reaches m n a b fuse later first begun in_time now left some system = λ last ps behaviours g thinned.
+    → n.left ≡ m.left → 0 < m.left → b.system ≡ a.system → (last : ℕ) (kept : Option (List ℕ))
+    → Reaches last m a kept n b kept
+expire_reaches m n a b fuse later first begun in_time now left some system = λ last kept ps behaviours g thinned.
     let h : RunState = state_of m a in
     let until = until_is m.begun m.clock begun in
     let due : fuse.due < h.until = omega (arith, until, in_time) in
@@ -69,20 +71,22 @@ expire_reaches m n a b fuse later first begun in_time now left some system = λ 
     subst (IsThinned to) (sym state)
     (thinned_expired (record clear.to { fuses = next.later }) (record h { fuses = next.rest }) next.fuse
     (without_due clear.to h clear.thinned next)) in
-    advances_one ps last m n a b g clear.to to clear.happenings clear.execution clear.none (Expired next.fuse) expires
-    thinned_to (omega (arith, left)) (λ spent. absurd (omega (arith, left, some, spent))) system
+    advances_one ps last m n a b kept kept g clear.to to clear.happenings clear.execution clear.none clear.nobody
+    (Expired next.fuse) expires thinned_to (omega (arith, left)) (λ spent. absurd (omega (arith, left, some, spent)))
+    (notes_none kept) system
 
 -- ---- a line is heard
 
 pub hear_reaches : (m n : Moment) (a b : Instances) (line : ScriptLine) (later : List ScriptLine)
     → m.script ≡ line ∷ later → m.begun ≡ true → line.at ≤ m.clock → IsNoFuseBefore (m.clock + 1) m.fuses
     → state_of n b ≡ after_effects (record (state_of m a) { script = later }) (heard_effects (state_of m a) line.signal)
-    → n.left ≡ m.left → 0 < m.left → b.system ≡ a.system → (last : ℕ) → Reaches last m a n b
-hear_reaches m n a b line later next begun in_time no_fuse now left some system = λ last ps behaviours.
+    → n.left ≡ m.left → 0 < m.left → b.system ≡ a.system → (last : ℕ) (k l : Option (List ℕ))
+    → NotesThese k (0 ∷ []) l → Reaches last m a k n b l
+hear_reaches m n a b line later next begun in_time no_fuse now left some system = λ last k l noted ps behaviours.
     let h : RunState = state_of m a in
     let until = until_is m.begun m.clock begun in
     let none : IsNoFuseBefore h.until m.fuses = subst (λ time. IsNoFuseBefore time m.fuses) (sym until) no_fuse in
-    advances_cleared ps last m n a b none (λ fuses thinned none_due.
+    advances_cleared ps last m n a b k l none (λ fuses thinned none_due.
     let at : RunState = record h { fuses = fuses } in
     let to : RunState = after_effects (record at { script = later }) (heard_effects at line.signal) in
     let hears : Hears at line (heard_effects at line.signal) to = record {
@@ -102,5 +106,6 @@ hear_reaches m n a b line later next begun in_time no_fuse now left some system 
       thinned = thinned_to;
       counted = omega (arith, left);
       reached = λ spent. absurd (omega (arith, left, some, spent));
+      noted = noted;
       system = system;
     })

@@ -13,6 +13,7 @@ use Rattle.serial_order.specs.Execution.{Execution, Expired, Expires, Follows, H
 use Rattle.serial_order.specs.RunState.{RunState, changed_at, expired, instance_at, with_expiry, with_instance}
 use Rattle.serial_run.specs.Advances.{Advances}
 use Rattle.serial_run.specs.ExecutionLaws.{advances_one, execution_append}
+use Rattle.serial_run.specs.Told.{NotesThese, teller_of, tellers_of}
 use Rattle.serial_sweeps.specs.Sweeps.{Moment, until}
 use Rattle.sdl_interp.specs.Instance.{InstanceValue}
 use Rattle.sdl_system.specs.Behaviour.{Behaviour}
@@ -67,6 +68,7 @@ pub record Cleared (ps : List Behaviour) (last : ℕ) (g h : RunState) : Type 0 
   pub to : RunState
   pub execution : Execution ps last g happenings to
   pub none : transitions_of happenings ≡ 0
+  pub nobody : tellers_of happenings ≡ []
   pub thinned : IsThinned to h
   pub next : IsNoFuseBefore to.until to.fuses ⊎ HasDue to h
 
@@ -78,6 +80,7 @@ module _ (ps : List Behaviour) (last : ℕ) where
     to = g;
     execution = begins;
     none = refl;
+    nobody = refl;
     thinned = thinned;
     next = next;
   }
@@ -100,6 +103,7 @@ module _ (ps : List Behaviour) (last : ℕ) where
         to = rest.to;
         execution = execution_append one rest.execution;
         none = omega (arith, later);
+        nobody = rest.nobody;
         thinned = rest.thinned;
         next = rest.next;
       }
@@ -162,32 +166,33 @@ with_all g h thinned = ap (λ (x : RunState). record x { fuses = g.fuses }) thin
 -- ---- one thing happens, where no fuse of the run is due
 
 -- one thing happens, from a state with these fuses
-pub record OneMore (ps : List Behaviour) (last : ℕ) (m : Moment) (a : Instances) (n : Moment) (b : Instances)
-    (fuses : List Fuse) : Type 0 where
+pub record OneMore (ps : List Behaviour) (last : ℕ) (m : Moment) (a : Instances) (k : Option (List ℕ)) (n : Moment)
+    (b : Instances) (l : Option (List ℕ)) (fuses : List Fuse) : Type 0 where
   pub happened : Happening
   pub to : RunState
   pub follows : Follows ps last (record (state_of m a) { fuses = fuses }) happened to
   pub thinned : IsThinned to (state_of n b)
   pub counted : n.left + transitions_of_one happened ≡ m.left
   pub reached : n.left ≡ 0 → IsTransition happened
+  pub noted : NotesThese k (teller_of happened) l
   pub system : b.system ≡ a.system
 
 -- Whatever spent fuses there are besides, they expire first.
-pub advances_cleared : (ps : List Behaviour) (last : ℕ) (m n : Moment) (a b : Instances)
+pub advances_cleared : (ps : List Behaviour) (last : ℕ) (m n : Moment) (a b : Instances) (k l : Option (List ℕ))
     → IsNoFuseBefore (until m) m.fuses
     → ((fuses : List Fuse) → IsThinned (record (state_of m a) { fuses = fuses }) (state_of m a)
-    → IsNoFuseBefore (until m) fuses → OneMore ps last m a n b fuses)
-    → (g : RunState) → IsThinned g (state_of m a) → Advances ps last m a g n b
-advances_cleared ps last m n a b none made g thinned =
+    → IsNoFuseBefore (until m) fuses → OneMore ps last m a k n b l fuses)
+    → (g : RunState) → IsThinned g (state_of m a) → Advances ps last m a k g n b l
+advances_cleared ps last m n a b k l none made g thinned =
     let h : RunState = state_of m a in
     let clear : Cleared ps last g h = cleared ps last g h thinned in
     let at : RunState = record h { fuses = clear.to.fuses } in
     let is : at ≡ clear.to = with_all clear.to h clear.thinned in
     let no_fuse : IsNoFuseBefore clear.to.until clear.to.fuses = none_due clear.to h clear.thinned none clear.next in
     let same : clear.to.until ≡ until m = sym (ap (λ (x : RunState). x.until) clear.thinned.same) in
-    let one : OneMore ps last m a n b clear.to.fuses =
+    let one : OneMore ps last m a k n b l clear.to.fuses =
     made clear.to.fuses (subst (λ (x : RunState). IsThinned x h) (sym is) clear.thinned)
     (subst (λ time. IsNoFuseBefore time clear.to.fuses) same no_fuse) in
-    advances_one ps last m n a b g at one.to clear.happenings
-    (subst (λ (x : RunState). Execution ps last g clear.happenings x) (sym is) clear.execution) clear.none one.happened
-    one.follows one.thinned one.counted one.reached one.system
+    advances_one ps last m n a b k l g at one.to clear.happenings
+    (subst (λ (x : RunState). Execution ps last g clear.happenings x) (sym is) clear.execution) clear.none clear.nobody
+    one.happened one.follows one.thinned one.counted one.reached one.noted one.system

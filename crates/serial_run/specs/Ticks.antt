@@ -17,7 +17,7 @@ use Rattle.serial_order.specs.RunState.{RunState}
 use Rattle.sdl_interp.specs.Instance.{IsAtRest}
 use Rattle.serial_run.specs.Advances.{Advances, Reaches}
 use Rattle.serial_run.specs.Clearing.{all_late, with_all}
-use Rattle.serial_run.specs.ExecutionLaws.{advances_one}
+use Rattle.serial_run.specs.ExecutionLaws.{advances_one, notes_none}
 use Rattle.serial_run.specs.Meanings.{all_rest, next_same, nothing_due}
 use Rattle.serial_run.specs.Winding.{IsToWind, Wound, least_first, wound}
 use Rattle.serial_sweeps.specs.Sweeps.{IsTick, Moment, ticked, until}
@@ -157,8 +157,8 @@ module _ (last time : ℕ) (ready : List ℕ) (m : Moment) (a : Instances) (seri
       (All-map (λ (one : ℕ). until m ≤ one) (λ (one : Fuse). one.due) m.fuses due.fuses) due.lines tick.next.least
       is_next
 
-  ticks_on : Advances ps last m a from (ticked m time a.living.given) a
-  ticks_on =
+  ticks_on : (kept : Option (List ℕ)) → Advances ps last m a kept from (ticked m time a.living.given) a kept
+  ticks_on kept =
       let n : Moment = ticked m time a.living.given in
       let w : Wound ps last from m.fuses time = wound ps last m.fuses time from to_wind in
       let at : RunState =
@@ -187,13 +187,15 @@ module _ (last time : ℕ) (ready : List ℕ) (m : Moment) (a : Instances) (seri
         in_order = w.in_order;
         thins = w.thins;
       } in
-      advances_one ps last m n a a from at to w.happenings w.execution w.none (Ticked time) ticks thinned_to
-      (omega arith) (λ spent. let some = tick.some in absurd (omega (arith, some, spent))) refl
+      advances_one ps last m n a a kept kept from at to w.happenings w.execution w.none w.nobody (Ticked time) ticks
+      thinned_to (omega arith) (λ spent. let some = tick.some in absurd (omega (arith, some, spent))) (notes_none kept)
+      refl
 
-pub tick_reaches : (last time : ℕ) (ready : List ℕ) (m : Moment) (a : Instances) → IsSerial ready a
-    → All IsAtRest a.instances.items → IsTick last m time → Reaches last m a (ticked m time a.living.given) a
-tick_reaches last time ready m a serial all tick = λ ps behaviours g thinned.
+pub tick_reaches : (last time : ℕ) (ready : List ℕ) (m : Moment) (a : Instances) (kept : Option (List ℕ))
+    → IsSerial ready a → All IsAtRest a.instances.items → IsTick last m time
+    → Reaches last m a kept (ticked m time a.living.given) a kept
+tick_reaches last time ready m a kept serial all tick = λ ps behaviours g thinned.
     let is = with_all g (state_of m a) thinned in
-    subst (λ (x : RunState). Advances ps last m a x (ticked m time a.living.given) a) is
+    subst (λ (x : RunState). Advances ps last m a kept x (ticked m time a.living.given) a kept) is
     (ticks_on last time ready m a serial all tick ps (all_rest ps a behaviours serial all) g.fuses
-    (subst (λ (x : RunState). IsThinned x (state_of m a)) (sym is) thinned))
+    (subst (λ (x : RunState). IsThinned x (state_of m a)) (sym is) thinned) kept)

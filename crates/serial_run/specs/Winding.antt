@@ -13,6 +13,7 @@ use Rattle.serial_order.specs.Execution.{Execution, Expired, Expires, Happening,
 use Rattle.serial_order.specs.RunState.{RunState}
 use Rattle.serial_run.specs.Clearing.{all_late, same_expired}
 use Rattle.serial_run.specs.ExecutionLaws.{execution_append}
+use Rattle.serial_run.specs.Told.{tellers_of}
 use Rattle.sdl_system.specs.Behaviour.{Behaviour}
 
 -- ---- times
@@ -52,6 +53,7 @@ pub record Wound (ps : List Behaviour) (last : ℕ) (g : RunState) (left : List 
   pub execution : Execution ps last g happenings
       (record g { clock = clock; until = until; turn = turn; bound = bound; fuses = fuses })
   pub none : transitions_of happenings ≡ 0
+  pub nobody : tellers_of happenings ≡ []
   pub in_order : IsInOrder fuses
   pub thins : Thins (is_spent_in g.instances) fuses left
   pub no_fuse : IsNoFuseBefore time fuses
@@ -81,6 +83,7 @@ module _ (ps : List Behaviour) (last : ℕ) (left : List Fuse) (time : ℕ) wher
     happenings = [];
     execution = begins;
     none = refl;
+    nobody = refl;
     in_order = to.in_order;
     thins = to.thins;
     no_fuse = subst (IsNoFuseBefore time) (sym is) late;
@@ -94,8 +97,9 @@ module _ (ps : List Behaviour) (last : ℕ) (left : List Fuse) (time : ℕ) wher
       (record g { clock = clock; until = until; turn = turn; bound = bound; fuses = fuses })
       → Wound ps last (record g { clock = clock; until = until; turn = turn; bound = bound; fuses = fuses }) left time
       → ((rest : List Happening) → transitions_of rest ≡ 0 → transitions_of (before ++ rest) ≡ 0)
+      → ((rest : List Happening) → tellers_of rest ≡ [] → tellers_of (before ++ rest) ≡ [])
       → (g.until ≤ time → until ≤ time) → Wound ps last g left time
-  winds_after g before clock until turn bound fuses execution rest adds within = record {
+  winds_after g before clock until turn bound fuses execution rest adds tells within = record {
     clock = rest.clock;
     until = rest.until;
     turn = rest.turn;
@@ -104,6 +108,7 @@ module _ (ps : List Behaviour) (last : ℕ) (left : List Fuse) (time : ℕ) wher
     happenings = before ++ rest.happenings;
     execution = execution_append execution rest.execution;
     none = adds rest.happenings rest.none;
+    nobody = tells rest.happenings rest.nobody;
     in_order = rest.in_order;
     thins = rest.thins;
     no_fuse = rest.no_fuse;
@@ -139,7 +144,7 @@ module _ (ps : List Behaviour) (last : ℕ) (left : List Fuse) (time : ℕ) wher
           within = to.within;
         }) in
         winds_after g (Expired fuse ∷ []) g.clock g.until g.turn g.bound more (goes begins (Expired fuse) mid expires)
-        rest (λ later none. omega (arith, none)) (λ before. before)
+        rest (λ later none. omega (arith, none)) (λ later nobody. nobody) (λ before. before)
 
     -- its time comes, and it expires
     winds_on : g.until ≤ fuse.due → Wound ps last g left time
@@ -178,7 +183,7 @@ module _ (ps : List Behaviour) (last : ℕ) (left : List Fuse) (time : ℕ) wher
         }) in
         winds_after g (Ticked fuse.due ∷ Expired fuse ∷ []) fuse.due (fuse.due + 1) 0 (length g.instances) more
         (goes (goes begins (Ticked fuse.due) at ticks) (Expired fuse) mid expires) rest
-        (λ later none. omega (arith, none)) (λ before. omega (arith, early))
+        (λ later none. omega (arith, none)) (λ later nobody. nobody) (λ before. omega (arith, early))
 
     winds_spent : Wound ps last g left time
     winds_spent = by_test (nat_le g.until fuse.due) refl where

@@ -4,7 +4,8 @@
 //! rest, expires the timers that are due then in their order, and hears the script's lines of that time in theirs: so
 //! do the sweeps (`serial_sweeps`), over instances with ports of their own (`serial_instances`). A step of one of them is made
 //! here, and what it does to others is done behind it. The report is that of one execution, of all that happens
-//! (`serial_order`). `run_serial_heard` does the same, and lets a listener hear how far it is.
+//! (`serial_order`). `run_serial_heard` does the same, and lets a listener hear how far it is; `run_serial_noted` also
+//! keeps whose events it tells, one after the other.
 #![tactic(auto)]
 
 mod listener;
@@ -13,5 +14,5 @@ mod step;
 mod stepping;
 
 pub use listener::{Listener, Nobody};
-pub use run::{run_serial, run_serial_heard};
+pub use run::{SerialRun, run_serial, run_serial_heard, run_serial_noted};
 pub use run_record::RunError;

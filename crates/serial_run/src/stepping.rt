@@ -3,18 +3,21 @@
 use crate::listener::Listener;
 use crate::step::step;
 use port_inbox::Fuse;
+use run_course::KeptWords;
 use sdl_script::ScriptLine;
 use serial_instances::Instances;
 use serial_sweeps::{Agenda, InstanceSet, Made};
 use serial_world::Effects;
 use std::alloc::{AllocError, Global};
 
-/// The instances of a run, the acts of a step, and who hears of transitions.
+/// The instances of a run, the acts of a step, who hears of transitions, and whose events were told, if that is kept: the
+/// number of the instance for each event, one after the other, and 0 for a line of the script.
 #[derive(Drop)]
 pub struct Stepping<'s, L> {
     pub instances: Instances<'s>,
     pub effects: Effects,
     pub listener: L,
+    pub order: KeptWords,
 }
 
 impl<'s, L: Listener> InstanceSet for Stepping<'s, L> {
@@ -34,7 +37,7 @@ impl<'s, L: Listener> InstanceSet for Stepping<'s, L> {
 
     ghost numbers = { λ a. a.instances.living.given };
 
-    ghost Reaches = { λ last m a n b. Reaches last m a.instances n b.instances };
+    ghost Reaches = { λ last m a n b. Reaches last m a.instances a.order n b.instances b.order };
 
     fn given(&self) -> u32 {
         self.instances.living.given()
@@ -52,6 +55,7 @@ impl<'s, L: Listener> InstanceSet for Stepping<'s, L> {
             agenda,
             number,
             &mut self.effects,
+            &mut self.order,
         )?;
         if made == Made::Transition {
             self.listener.transition(agenda.clock);
@@ -64,6 +68,7 @@ impl<'s, L: Listener> InstanceSet for Stepping<'s, L> {
     }
 
     fn hear(&mut self, agenda: &mut Agenda, line: &ScriptLine) -> Result<(), AllocError> {
+        self.order.note(0);
         self.instances.put_line(agenda, line)
     }
 
@@ -71,9 +76,10 @@ impl<'s, L: Listener> InstanceSet for Stepping<'s, L> {
 
     ghost none_ready = { λ ready a. none_ready ready a.instances };
 
-    ghost ticks = { λ last time ready m a. tick_reaches last time ready m a.instances };
+    ghost ticks = { λ last time ready m a. tick_reaches last time ready m a.instances a.order };
 
-    ghost stays = { λ last m a. reaches_same last m a.instances };
+    ghost stays = { λ last m a. reaches_same last m a.instances a.order };
 
-    ghost goes_on = { λ last m n o a b c. reaches_on last m n o a.instances b.instances c.instances };
+    ghost goes_on = { λ last m n o a b c.
+        reaches_on last m n o a.instances b.instances c.instances a.order b.order c.order };
 }

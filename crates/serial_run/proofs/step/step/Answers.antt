@@ -1,4 +1,4 @@
-use Rattle.std.proofs.Common.{◌≡◌, ◌≢◌, ◌∙◌, ◌-◌, ◌<◌, true, false, ℕ, suc, Some, refl, inl, inr, ap, sym, subst, arith, rules, slice_get, set, length, map, vec_len}
+use Rattle.std.proofs.Common.{◌≡◌, ◌≢◌, ◌∙◌, ◌-◌, ◌<◌, true, false, ℕ, suc, List, Option, Some, refl, inl, inr, ap, sym, subst, arith, rules, slice_get, set, length, map, replicate, vec_len}
 use Rattle.std.specs.Prelude.{Contains, ◌↔◌}
 use Rattle.std.proofs.lemmas.List.{length-set}
 use Rattle.std.proofs.lemmas.Option.{slice_get_read, slice_get_within}
@@ -12,6 +12,7 @@ use Rattle.run_evaluation.specs.declared.identity.Identity.{Identity}
 use Rattle.sdl_interp.specs.Instance.{EndsBy, InstanceValue, IsIdle, Moves}
 use Rattle.run_semantics.specs.World.{Living, WorldValue}
 use Rattle.serial_run.specs.ExecutionLaws.{stays}
+use Rattle.serial_run.specs.Told.{NotesThese, NotesTurn}
 use Rattle.serial_run.proofs.Places.{living_same, in_place_set, marked_off, marked_on, not_ended, one_there, serial_set, set_back, set_here, set_there}
 use Rattle.serial_run.specs.Meanings.{all_at}
 use Rattle.serial_run.proofs.Steps.{IsAlone, Made, world_is, ended_rests, idle_rests, step_counts, step_fails, step_idles, stepped}
@@ -20,11 +21,18 @@ use Rattle.serial_sweeps.specs.declared.instance_set.Made.TheVariants.{Failure, 
 use Rattle.run_transitions.specs.declared.machine.Position.TheVariants as at
 use Rattle.serial_run.proofs.step.step.Goals as goal
 
+-- as many events are noted as the instance has more
+turn_noted : (number : ℕ) (old new : InstanceValue) (k l : Option (List ℕ)) (told : ℕ) → told ≡ length old.events
+    → NotesThese k (replicate (length new.events - told) number) l → NotesTurn number old new k l
+turn_noted number old new k l told is noted =
+    subst (λ count. NotesThese k (replicate (length new.events - count) number) l) is noted
+
 -- the number is that of an instance
 
 pub returns-in_default-clause-runs : goal.returns-in_default-clause-runs
 returns-in_default-clause-runs c = λ last bound m time.
-    stays last (at_agenda m c.args.agenda.now) (at_agenda m c.args.agenda.now) c.args.instances.now c.args.instances.now refl refl refl
+    let n = at_agenda m c.args.agenda.now in
+    stays last n n c.args.instances.now c.args.instances.now c.args.order.now refl refl refl
 
 pub returns-in_default-clause-fewer : goal.returns-in_default-clause-fewer
 returns-in_default-clause-fewer c =
@@ -60,7 +68,7 @@ returns-in-Ended-clause-fits c =
 pub returns-in-Ended-clause-runs : goal.returns-in-Ended-clause-runs
 returns-in-Ended-clause-runs c = λ last bound m time.
     let n = at_agenda m c.args.agenda.now in
-    stays last n n c.args.instances.now _ refl refl refl
+    stays last n n c.args.instances.now _ c.args.order.now refl refl refl
 
 -- it makes a transition, and lives on
 
@@ -151,7 +159,9 @@ returns-in_ok-perform_all-in-Moved-clause-runs c = λ last bound m time.
     c.perform_all.new.self place c.args.number bound old new v effects made moves
     (λ g thinned numbers. c.in_ok-perform_all-in-Moved.ensures.state asked g (subst (IsThinned g) state thinned)
     (subst (λ n. AreNumbered n effects) (sym (ap (λ (living : Living). living.given) looked.living ∙ given)) numbers))
-    (omega (arith, time.some)) (c.perform_all.ensures.system ∙ looked.system) last
+    (omega (arith, time.some)) (c.perform_all.ensures.system ∙ looked.system) last c.args.order.now c.note_turn.new.order
+    (turn_noted c.args.number old new c.args.order.now c.note_turn.new.order c.count_of-told.result
+    (c.count_of-told.ensures old there) (c.note_turn.ensures new (set_here xs place old new there)))
 
 -- it ends
 
@@ -276,7 +286,9 @@ returns-then-not-counts-clause-runs c = λ last bound m time.
     (subst (λ (w : WorldValue). Moves c.in-Ended-stepped.counts old w new v) sees end.1) in
     let to = after Failure c.args.number bound from in
     step_fails agenda.ready from to s c.leave.new.self place c.args.number bound old new v effects made moves
-    (ap (state_of to) same) refl (ap (λ (u : Instances). u.system) same) last
+    (ap (state_of to) same) refl (ap (λ (u : Instances). u.system) same) last c.args.order.now c.note_turn.new.order
+    (turn_noted c.args.number old new c.args.order.now c.note_turn.new.order c.count_of-told.result
+    (c.count_of-told.ensures old there) (c.note_turn.ensures new (set_here xs place old new there)))
 
 pub perform_all-requires-in-Ended-stepped : goal.perform_all-requires-in-Ended-stepped
 perform_all-requires-in-Ended-stepped c =
@@ -372,7 +384,9 @@ returns-in_ok-perform_all-in-Ended-stepped-clause-runs c = λ last bound m time.
     (subst (IsThinned g) (sym (ap (λ (u : Instances). state_of (at_agenda spent agenda) u) same)) thinned)
     (subst (λ n. AreNumbered n effects) (sym given) numbers))
     (omega (arith, time.some))
-    (c.perform_all-in-Ended-stepped.ensures.system ∙ ap (λ (u : Instances). u.system) same) last
+    (c.perform_all-in-Ended-stepped.ensures.system ∙ ap (λ (u : Instances). u.system) same) last c.args.order.now c.note_turn.new.order
+    (turn_noted c.args.number old new c.args.order.now c.note_turn.new.order c.count_of-told.result
+    (c.count_of-told.ensures old there) (c.note_turn.ensures new (set_here xs place old new there)))
 
 -- it waits
 
@@ -435,3 +449,6 @@ returns-in-Idle-clause-runs c = λ last bound m time.
     let idle : IsIdle old (world_at (state_of from s)) new v =
     subst (λ (w : WorldValue). IsIdle old w new v) sees c.in-Idle.ensures.steps in
     step_idles from from s _ place old new v c.requires.fits there keeps alone_then alone_now idle refl refl refl last
+    c.args.number c.args.order.now c.note_turn.new.order
+    (turn_noted c.args.number old new c.args.order.now c.note_turn.new.order c.count_of-told.result
+    (c.count_of-told.ensures old there) (c.note_turn.ensures new (set_here xs place old new there)))

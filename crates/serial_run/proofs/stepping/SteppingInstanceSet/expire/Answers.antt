@@ -10,5 +10,6 @@ returns-clause-runs g c = λ last m some begun.
     let fuse = c.args.fuse in
     on_ok_weaker c.fire.result
     (λ now. expire_reaches (record (at_agenda m agenda) { fuses = fuse ∷ agenda.fuses }) (at_agenda m c.fire.new.agenda)
-    c.args.self.now.instances c.fire.new.self fuse agenda.fuses refl begun c.requires.due now refl some c.fire.ensures.system last)
+    c.args.self.now.instances c.fire.new.self fuse agenda.fuses refl begun c.requires.due now refl some
+    c.fire.ensures.system last c.args.self.now.order)
     (c.fire.ensures.state m)
