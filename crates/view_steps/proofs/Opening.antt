@@ -6,9 +6,8 @@ use Rattle.std.proofs.lemmas.Bool.{eq-eqb, eqb-true}
 use Rattle.std.proofs.lemmas.List.{length-map, take_all}
 use Rattle.run_record.specs.Event.{Event}
 use Rattle.run_record.specs.Record.{RecordValue}
-use Rattle.view_timeline.specs.Cursor.{CursorValue}
-use Rattle.view_timeline.specs.Moves.{EachOnce, GoOn, IsOfOne, IsPart, events_in, moves_of}
-use Rattle.view_timeline.specs.Telling.{IsAt}
+use Rattle.view_timeline.specs.Cursor.{CursorValue, IsAt}
+use Rattle.view_timeline.specs.Moves.{GoOn, IsOfOne, IsPart, events_in, moves_of}
 use Rattle.view_timeline.specs.Timeline.{AreBegun, IsBegun}
 use Rattle.view_timeline.specs.declared.moves.Link.{Link}
 use Rattle.view_timeline.specs.declared.moves.Move.{Move}
@@ -252,12 +251,3 @@ module _ (records : List RecordValue) (told : Timeline) (all : AllByRecursion (I
   started-left ls ls_are =
       (λ i. left_of (rs_are i) (cs_are i) (ms_are i) (ls_are i))
       ∙ opened-left records (map fresh records) told.moves.items told.links.items (before-all records told all begun)
-
--- the moves of a whole timeline
-pub begun-once : (records : List RecordValue) (told : Timeline) → EachOnce records told.moves.items
-    → AreBegun records told
-begun-once records told once place trace there = record {
-  end = length trace.events;
-  within = omega arith;
-  whole = once.whole place trace there;
-}

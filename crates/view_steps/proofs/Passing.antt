@@ -8,8 +8,7 @@ use Rattle.std.proofs.lemmas.List.{length_push, nil_from_length}
 use Rattle.std.proofs.lemmas.Option.{slice_get-get_or}
 use Rattle.run_record.specs.Event.{Event}
 use Rattle.run_record.specs.Record.{RecordValue}
-use Rattle.view_timeline.specs.Cursor.{CursorValue}
-use Rattle.view_timeline.specs.Telling.{IsAt}
+use Rattle.view_timeline.specs.Cursor.{CursorValue, IsAt}
 use Rattle.view_timeline.specs.declared.moves.Link.{Link}
 use Rattle.view_timeline.specs.declared.moves.Move.{Move}
 use Rattle.view_steps.specs.Walk.{GoesOn, IsIn, IsOnTheWay, StepValue, is_none, left_from, left_in, left_of, passed_after, steps, steps_in}

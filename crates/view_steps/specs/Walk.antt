@@ -4,10 +4,9 @@ use Rattle.std.specs.List.{AllByRecursion}
 use Rattle.std.specs.Option.{option_map_or}
 use Rattle.run_record.specs.Event.{Event}
 use Rattle.run_record.specs.Record.{RecordValue}
-use Rattle.view_timeline.specs.Cursor.{CursorValue}
+use Rattle.view_timeline.specs.Cursor.{CursorValue, IsAt}
 use Rattle.view_timeline.specs.Did.{begins}
 use Rattle.view_timeline.specs.Moves.{GoOn, IsPart, events_in, moves_of}
-use Rattle.view_timeline.specs.Telling.{IsAt}
 use Rattle.view_timeline.specs.declared.moves.Link.{Link}
 use Rattle.view_timeline.specs.declared.moves.Move.{Move}
 use Rattle.view_timeline.specs.declared.moves.Timeline.{Timeline}

@@ -1,5 +1,5 @@
 -- When channels are the same.
-use Rattle.std.proofs.Common.{◌≡◌, Bool, true, false, refl, sym, ap, ◌∙◌, true≢false}
+use Rattle.std.proofs.Common.{◌≡◌, true, false, refl, sym, ap, ◌∙◌, true≢false}
 use Rattle.std.specs.Bool.{Decides}
 use Rattle.std.proofs.lemmas.Bool.Decides.{Decides-and, Decides-eqb, Decides-like}
 use Rattle.view_timeline.specs.Did.{same_channel}
@@ -20,14 +20,6 @@ same_itself channel = (same_channel-Decides channel channel).1 refl
 
 pub same-true : (a b : Channel) → same_channel a b ≡ true → a ≡ b
 same-true a b = (same_channel-Decides a b).0
-
--- channels that are not the same have nothing in common
-pub same-false : (a b : Channel) → (b ≡ a → ⊥) → same_channel a b ≡ false
-same-false a b apart = by (same_channel a b) refl
-  where
-    by : (t : Bool) → same_channel a b ≡ t → t ≡ false
-    by true e = absurd (apart (sym (same-true a b e)))
-    by false e = refl
 
 pub same-apart : (a b : Channel) → same_channel a b ≡ false → b ≡ a → ⊥
 same-apart a b e same = true≢false (sym ((same_channel-Decides a b).1 (sym same)) ∙ e)

@@ -1,271 +1,220 @@
--- Why the next event of a record can't be told.
-use Rattle.std.proofs.Common.{◌≡◌, ℕ, zero, suc, ◌+◌, ◌<◌, ◌==◌, Contains, Bool, true, false, List, [], ◌∷◌, ◌++◌, length, length-append, slice_get, drop, set, Option, None, Some, refl, sym, ◌∙◌, ap, subst, arith}
-use Rattle.std.proofs.lemmas.Bool.{eqb-false, eqb-true}
+-- Why no event of an instance can be told next.
+use Rattle.std.proofs.Common.{◌≡◌, ℕ, ◌==◌, true, false, true≢false, List, [], ◌∷◌, ◌++◌, length, slice_get, Contains, Option, None, Some, refl, sym, ◌∙◌, ap, subst, arith, append-nil, eq-eqb}
+use Rattle.std.proofs.lemmas.Bool.{eqb-true}
 use Rattle.std.proofs.lemmas.List.Elements.{Contains-push}
 use Rattle.run_record.specs.Entry.{event_of}
-use Rattle.run_record.specs.Event as event
+use Rattle.run_record.specs.Event.{Event}
 use Rattle.run_record.specs.Record.{RecordValue}
-use Rattle.view_timeline.specs.Cursor.{CursorValue}
-use Rattle.view_timeline.specs.Did.{Did, Message, did, taken, time_of}
-use Rattle.view_timeline.specs.Hindered.{Hindered, IsFirst, IsHeld, IsNextOf, begins_none, is_early, is_missing, is_past, lives_not}
-use Rattle.view_timeline.specs.Linked.{gather}
-use Rattle.view_timeline.specs.Moves.{GoOn, done_by, moves_of, times}
-use Rattle.view_timeline.specs.Rows.{waits_at}
-use Rattle.view_timeline.specs.Telling.{Acts, HasLeft, IsAt, IsDone, IsHeldNow, IsLatest, IsNext, IsTold, IsUnmoved, IsUpTo, Keeps, NobodyNow, done_of, events_left, sum_left}
-use Rattle.view_timeline.specs.Traffic.{IsMissing, Ledger, ledger_of}
-use Rattle.view_timeline.proofs.Gathering.{each-length}
-use Rattle.view_timeline.proofs.MoveLemmas.{drop-left, get-both, get-within}
-use Rattle.view_timeline.proofs.Steps.{IsRightNow}
+use Rattle.view_timeline.specs.Did.{Did, Message, did, is_closing, taken}
+use Rattle.view_timeline.specs.Events.{HasLeft, IsBarred, IsDone, IsNext, IsTold, Keeps, dead, done_of, earlier, closing, has_number, reached, unbegun, untimely}
+use Rattle.view_timeline.specs.Hindered.{CantGoOn, Hindered, IsLeft, IsNextOf, all_is_told, closes, ended, goes_on, has_closed, has_no_record, is_early, is_hindered, is_missing, is_past, lives_not}
+use Rattle.view_timeline.specs.Moves.{GoOn, IsLatest, moves_of}
+use Rattle.view_timeline.specs.Rows.{IsFirst}
+use Rattle.view_timeline.specs.Traffic.{IsMissing, ledger_of}
 use Rattle.view_timeline.specs.declared.cursor.Next.{Next}
+use Rattle.view_timeline.specs.declared.events.Events.{Events}
+use Rattle.view_timeline.specs.declared.events.Reached.{Reached}
 use Rattle.view_timeline.specs.declared.moves.Link.{Link}
 use Rattle.view_timeline.specs.declared.moves.Move.{Move}
-use Rattle.view_timeline.specs.declared.telling.Telling.{Telling}
+use Rattle.view_timeline.proofs.MoveLemmas.{get-both, get-middle}
 
 -- ---- the next event
 
-go_on-unique : (from : ℕ) (moves : List Move) (one other : ℕ) → GoOn from moves one → GoOn from moves other
-    → one ≡ other
-go_on-unique from [] one other a b = sym a ∙ b
-go_on-unique from (move ∷ moves) one other a b = go_on-unique move.end.0 moves one other a.1 b.1
+module _ (records : List RecordValue) (events : Events) (keeps : Keeps records events) (place : ℕ) where
+  -- whose record it is
+  pub number-at : (one : Reached) → reached events place ≡ Some one → (trace : RecordValue)
+      → slice_get records place ≡ Some trace → one.cursor.number ≡ trace.pid
+  number-at one there trace trace_there =
+      let t : IsTold events.moves.items place trace events.reached.items = keeps.told place trace trace_there in
+      let same : t.one ≡ one = let e : Some t.one ≡ Some one = sym t.is_there ∙ there in cc in
+      ap (λ (r : Reached). r.cursor.number) (sym same) ∙ t.at.number
 
-pub get-middle : {A : Type 0} (xs : List A) (x : A) (ys : List A) → slice_get (xs ++ x ∷ ys) (length xs) ≡ Some x
-get-middle [] x ys = refl
-get-middle (a ∷ xs) x ys = get-middle xs x ys
-
--- what a cursor has left is what its record has left
-left-at : (trace : RecordValue) (cursor : CursorValue) → IsAt trace cursor
-    → drop cursor.told trace.events ≡ cursor.left
-left-at trace cursor at =
-    ap (λ (k : ℕ). drop k trace.events) (sym at.told) ∙ ap (drop (length at.first)) at.all
-    ∙ drop-left at.first cursor.left
-
-module _ (records : List RecordValue) (telling : Telling) (keeps : Keeps records telling) (place : ℕ) where
-  -- what is next has this event, and it's of this instance; and the rest comes after it
-  same-next : (cursor : CursorValue) → slice_get telling.cursors.items place ≡ Some cursor → (e : event.Event)
-      (rest : List event.Event) → cursor.left ≡ e ∷ rest → (one : Did) (more : List event.Event)
-      → IsNextOf records telling.moves.items place one more → (one ≡ did cursor.number e) × (more ≡ rest)
-  same-next cursor there e rest left one more next =
-      let t : IsTold telling.moves.items place next.trace telling.cursors.items =
-      keeps.told place next.trace next.is_there in
-      let same : t.cursor ≡ cursor = let s : Some t.cursor ≡ Some cursor = sym t.is_there ∙ there in cc in
-      let end : next.end ≡ t.cursor.told =
-      go_on-unique 0 (moves_of place telling.moves.items) next.end t.cursor.told next.told t.told in
-      let left_so : t.cursor.left ≡ e ∷ rest = ap (λ (c : CursorValue). c.left) same ∙ left in
-      let found : next.event ∷ more ≡ e ∷ rest =
-      sym next.left_is ∙ ap (λ (k : ℕ). drop k next.trace.events) end ∙ left-at next.trace t.cursor t.at ∙ left_so in
-      let event_so : next.event ≡ e = cc in
-      let rest_so : more ≡ rest = cc in
-      let number_so : next.trace.pid ≡ cursor.number = sym t.at.number ∙ ap (λ (c : CursorValue). c.number) same in
-      (next.next_is ∙ (λ i. did (number_so i) (event_so i)), rest_so)
-
-  pub next-same : (next : Next) → IsNext telling place next → (one : Did) (more : List event.Event)
-      → IsNextOf records telling.moves.items place one more
-      → (one ≡ did next.number (event_of next.entry next.values.now)) × (more ≡ next.rest.left)
-  next-same next is one more next_of =
-      let same = same-next is.cursor is.is_there (event_of next.entry next.values.now) next.rest.left is.left one more
-      next_of in
-      (same.0 ∙ ap (λ n. did n (event_of next.entry next.values.now)) is.number, same.1)
-
-  -- where all is told none is next
-  pub done-no_next : IsDone telling place → (one : Did) (more : List event.Event)
-      → IsNextOf records telling.moves.items place one more → ⊥
-  done-no_next done one more next =
-      let t : IsTold telling.moves.items place next.trace telling.cursors.items =
-      keeps.told place next.trace next.is_there in
-      let end : next.end ≡ t.cursor.told =
-      go_on-unique 0 (moves_of place telling.moves.items) next.end t.cursor.told next.told t.told in
-      let found : next.event ∷ more ≡ [] =
-      sym next.left_is ∙ ap (λ (k : ℕ). drop k next.trace.events) end ∙ left-at next.trace t.cursor t.at
-      ∙ done t.cursor t.is_there in
-      cc
-
-  there-next : (cursor : CursorValue) → slice_get telling.cursors.items place ≡ Some cursor → (e : event.Event)
-      (rest : List event.Event) → cursor.left ≡ e ∷ rest
-      → IsNextOf records telling.moves.items place (did cursor.number e) rest
-  there-next cursor there e rest left =
+  -- what a cursor has next its record has next
+  there-next : (one : Reached) → reached events place ≡ Some one → (e : Event) (rest : List Event)
+      → one.cursor.left ≡ e ∷ rest → IsNextOf records events.moves.items place (did one.cursor.number e)
+  there-next one there e rest left =
       let trace : (trace : RecordValue) × (slice_get records place ≡ Some trace) =
-      get-both telling.cursors.items records keeps.as_many place cursor there in
-      let t : IsTold telling.moves.items place trace.0 telling.cursors.items = keeps.told place trace.0 trace.1 in
-      let same : t.cursor ≡ cursor = let s : Some t.cursor ≡ Some cursor = sym t.is_there ∙ there in cc in
-      let left_so : t.cursor.left ≡ e ∷ rest = ap (λ (c : CursorValue). c.left) same ∙ left in
+      get-both events.reached.items records keeps.as_many place one there in
+      let t : IsTold events.moves.items place trace.0 events.reached.items = keeps.told place trace.0 trace.1 in
+      let same : t.one ≡ one = let s : Some t.one ≡ Some one = sym t.is_there ∙ there in cc in
+      let left_so : t.one.cursor.left ≡ e ∷ rest = ap (λ (r : Reached). r.cursor.left) same ∙ left in
       record {
         trace = trace.0;
         is_there = trace.1;
-        end = t.cursor.told;
+        end = t.one.cursor.told;
         told = t.told;
         event = e;
-        left_is = left-at trace.0 t.cursor t.at ∙ left_so;
-        next_is = ap (λ n. did n e) (ap (λ (c : CursorValue). c.number) (sym same) ∙ t.at.number);
+        event_is = ap (slice_get trace.0.events) (sym t.at.told)
+            ∙ ap (λ (es : List Event). slice_get es (length t.at.first))
+            (t.at.all ∙ ap (λ (l : List Event). t.at.first ++ l) left_so)
+            ∙ get-middle t.at.first e rest;
+        next_is = ap (λ (n : ℕ). did n e) (number-at one there trace.0 trace.1);
       }
 
-  pub next-there : (next : Next) → IsNext telling place next
-      → IsNextOf records telling.moves.items place (did next.number (event_of next.entry next.values.now))
-      next.rest.left
+  pub next-there : (next : Next) → IsNext events place next
+      → IsNextOf records events.moves.items place (did next.number (event_of next.entry next.values.now))
   next-there next is =
-      subst (λ n. IsNextOf records telling.moves.items place (did n (event_of next.entry next.values.now))
-      next.rest.left) is.number
-      (there-next is.cursor is.is_there (event_of next.entry next.values.now) next.rest.left is.left)
+      subst (λ (n : ℕ). IsNextOf records events.moves.items place (did n (event_of next.entry next.values.now)))
+      is.number (there-next is.one is.is_there (event_of next.entry next.values.now) next.rest.left is.left)
 
-  -- what is left has an event that is next
-  pub next-left : (number : ℕ) → HasLeft telling place number
-      → (one : Did) × (rest : List event.Event) × IsNextOf records telling.moves.items place one rest
-  next-left number has = by has.cursor.left refl
-    where
-      by : (left : List event.Event) → has.cursor.left ≡ left
-          → (one : Did) × (rest : List event.Event) × IsNextOf records telling.moves.items place one rest
-      by [] none =
-          let some = has.left in
-          let no : ⊥ = let many = ap length none in omega (arith, some, many) in absurd no
-      by (e ∷ rest) left = (did has.cursor.number e, rest, there-next has.cursor has.is_there e rest left)
+  -- where all is told
+  done-whole : IsDone events place → (trace : RecordValue) → slice_get records place ≡ Some trace
+      → GoOn 0 (moves_of place events.moves.items) (length trace.events)
+  done-whole done trace there =
+      let t : IsTold events.moves.items place trace events.reached.items = keeps.told place trace there in
+      let none : t.one.cursor.left ≡ [] = done t.one t.is_there in
+      let all : trace.events ≡ t.at.first =
+      t.at.all ∙ ap (λ (l : List Event). t.at.first ++ l) none ∙ append-nil t.at.first in
+      let end : t.one.cursor.told ≡ length trace.events = sym t.at.told ∙ ap length (sym all) in
+      subst (GoOn 0 (moves_of place events.moves.items)) end t.told
 
--- ---- what hinders it
+-- ---- whose record it is
 
--- what is taken doesn't wait first
-pub missing-hinders : (records : List RecordValue) (telling : Telling) → Keeps records telling → (one : Did)
-    (rest : List event.Event) → IsMissing (taken one) (ledger_of telling.traffic)
-    → Hindered records (done_of records telling) telling.traffic.links.items one rest
-missing-hinders records telling keeps one rest = by (taken one) refl
+numbered : (number : ℕ) (o : Option Reached) → has_number number o ≡ true
+    → (one : Reached) × (o ≡ Some one) × ((one.cursor.number == number) ≡ true)
+numbered number None is = let no : ⊥ = cc in absurd no
+numbered number (Some one) is = (one, refl, is)
+
+numbered-number : (number : ℕ) (o : Option Reached) (one : Reached) → o ≡ Some one → has_number number o ≡ true
+    → one.cursor.number ≡ number
+numbered-number number o one there is =
+    let found = numbered number o is in
+    let e : Some found.0 ≡ Some one = sym found.1 ∙ there in
+    let same : found.0 ≡ one = cc in
+    eqb-true one.cursor.number number (ap (λ (r : Reached). r.cursor.number == number) (sym same) ∙ found.2)
+
+-- ---- nothing of it can be told
+
+-- what it takes doesn't wait first
+missing-hinders : (records : List RecordValue) (events : Events) → Keeps records events → (one : Did)
+    → IsMissing (taken one) (ledger_of events.traffic)
+    → Hindered records (done_of records events) events.traffic.links.items one
+missing-hinders records events keeps one = by (taken one) refl
   where
-    by : (message : Option Message) → taken one ≡ message → IsMissing message (ledger_of telling.traffic)
-        → Hindered records (done_of records telling) telling.traffic.links.items one rest
+    by : (message : Option Message) → taken one ≡ message → IsMissing message (ledger_of events.traffic)
+        → Hindered records (done_of records events) events.traffic.links.items one
     by None takes missing = absurd missing
     by (Some message) takes missing =
         is_missing message takes
         (λ first. missing (subst (IsFirst message.values) (keeps.tells.waiting message.channel) first))
 
--- what doesn't live makes no move
-pub dead-hinders : (records : List RecordValue) (telling : Telling) → Keeps records telling → (one : Did)
-    (rest : List event.Event) → (ledger_of telling.traffic).living one.by ≡ false
-    → Hindered records (done_of records telling) telling.traffic.links.items one rest
-dead-hinders records telling keeps one rest dead = lives_not (sym (keeps.tells.living one.by) ∙ dead)
+module _ (records : List RecordValue) (events : Events) (keeps : Keeps records events) (number : ℕ) where
+  pub no-record : ((place : ℕ) → has_number number (reached events place) ≡ false)
+      → CantGoOn records events.moves.items events.traffic.links.items number
+  no-record none = has_no_record (λ place trace there own.
+      let t : IsTold events.moves.items place trace events.reached.items = keeps.told place trace there in
+      let is : (t.one.cursor.number == number) ≡ true = eq-eqb t.one.cursor.number number (t.at.number ∙ own) in
+      true≢false (sym is ∙ ap (has_number number) (sym t.is_there) ∙ none place))
 
--- the record has no other next event
-pub held-by : (records : List RecordValue) (telling : Telling) → Keeps records telling → (place : ℕ) (next : Next)
-    → IsNext telling place next
-    → ((at : ℕ) → time_of (event_of next.entry next.values.now) ≡ Some at
-    → Hindered records (done_of records telling) telling.traffic.links.items
-    (did next.number (event_of next.entry next.values.now)) next.rest.left)
-    → IsHeldNow records telling place
-held-by records telling keeps place next is hindered one rest at next_of timed =
-    let same = next-same records telling keeps place next is one rest next_of in
-    subst (λ (d : Did). Hindered records (done_of records telling) telling.traffic.links.items d rest) (sym same.0)
-    (subst (λ (more : List event.Event). Hindered records (done_of records telling) telling.traffic.links.items
-    (did next.number (event_of next.entry next.values.now)) more) (sym same.1)
-    (hindered at (ap (λ (d : Did). time_of d.event) (sym same.0) ∙ timed)))
+  module _ (place : ℕ) (own : has_number number (reached events place) ≡ true) where
+    pub all-told : IsDone events place → CantGoOn records events.moves.items events.traffic.links.items number
+    all-told done =
+        let found = numbered number (reached events place) own in
+        let trace : (trace : RecordValue) × (slice_get records place ≡ Some trace) =
+        get-both events.reached.items records keeps.as_many place found.0 found.1 in
+        all_is_told place trace.0 trace.1
+        (sym (number-at records events keeps place found.0 found.1 trace.0 trace.1)
+        ∙ eqb-true found.0.cursor.number number found.2)
+        (done-whole records events keeps place done trace.0 trace.1)
 
-pub held-done : (records : List RecordValue) (telling : Telling) → Keeps records telling → (place : ℕ)
-    → IsDone telling place → IsHeldNow records telling place
-held-done records telling keeps place done one rest at next_of timed =
-    absurd (done-no_next records telling keeps place done one rest next_of)
+    pub next-number : (next : Next) → IsNext events place next → next.number ≡ number
+    next-number next is =
+        sym is.number ∙ numbered-number number (reached events place) is.one is.is_there own
 
--- the same where no move is told
-pub held-kept : (records : List RecordValue) (old new : Telling) (place : ℕ) → IsUnmoved old new
-    → IsHeldNow records old place → IsHeldNow records new place
-held-kept records old new place same held =
-    subst (λ (links : List Link). IsHeld records new.moves.items links place) (sym same.links)
-    (subst (λ (moves : List Move). IsHeld records moves old.traffic.links.items place) (sym same.moves) held)
+    held : (next : Next) → IsNext events place next
+        → Hindered records (done_of records events) events.traffic.links.items
+        (did next.number (event_of next.entry next.values.now))
+        → CantGoOn records events.moves.items events.traffic.links.items number
+    held next is hinders =
+        is_hindered place (did next.number (event_of next.entry next.values.now))
+        (next-there records events keeps place next is) (next-number next is) hinders
 
--- ---- more links
+    -- it is barred
+    pub barred-held : (next : Next) → IsNext events place next → IsLatest events.latest (done_of records events)
+        → IsBarred events next.number (event_of next.entry next.values.now)
+        → CantGoOn records events.moves.items events.traffic.links.items number
+    barred-held next is latest barred = held next is (by barred)
+      where
+        by : IsBarred events next.number (event_of next.entry next.values.now)
+            → Hindered records (done_of records events) events.traffic.links.items
+            (did next.number (event_of next.entry next.values.now))
+        by (dead lives) = lives_not (sym (keeps.tells.living next.number) ∙ lives)
+        by (unbegun to) =
+            is_early to.receiver to.goes_to (sym (keeps.tells.begun to.receiver) ∙ to.begun_not)
+        by (untimely (earlier at timed less)) =
+            is_past at events.latest timed (latest.is_told (omega (arith, less))) less
+        by (untimely (closing is)) = closes is
 
-gather-more : {A : Type 0} (read : ℕ → Did → Link → List A) (place : ℕ) (done : List Did) (links more : List Link)
-    → length done ≡ length links → gather read place done (links ++ more) ≡ gather read place done links
-gather-more read place [] links more same = refl
-gather-more read place (d ∷ done) [] more same = let no : ⊥ = omega (arith, same) in absurd no
-gather-more read place (d ∷ done) (link ∷ links) more same =
-    ap (λ l. read place d link ++ l) (gather-more read (place + 1) done links more (omega (arith, same)))
+    -- what it takes doesn't wait first
+    pub missing-held : (next : Next) → IsNext events place next
+        → IsMissing (taken (did next.number (event_of next.entry next.values.now))) (ledger_of events.traffic)
+        → CantGoOn records events.moves.items events.traffic.links.items number
+    missing-held next is missing =
+        held next is
+        (missing-hinders records events keeps (did next.number (event_of next.entry next.values.now)) missing)
 
--- links of what is told later change nothing
-pub hindered-more : (records : List RecordValue) (telling : Telling) → Keeps records telling → (more : List Link)
-    (one : Did) (rest : List event.Event)
-    → Hindered records (done_of records telling) telling.traffic.links.items one rest
-    → Hindered records (done_of records telling) (telling.traffic.links.items ++ more) one rest
-hindered-more records telling keeps more one rest (begins_none none) = begins_none none
-hindered-more records telling keeps more one rest (lives_not dead) = lives_not dead
-hindered-more records telling keeps more one rest (is_early sooner output later number is none looks begun) =
-    is_early sooner output later number is none looks begun
-hindered-more records telling keeps more one rest (is_past at later timed told less) =
-    is_past at later timed told less
-hindered-more records telling keeps more one rest (is_missing message takes missing) =
-    is_missing message takes
-    (λ first. missing (subst (IsFirst message.values)
-    (gather-more (waits_at message.channel) 0 (done_of records telling) telling.traffic.links.items more
-    (each-length (IsRightNow records) [] (done_of records telling) telling.traffic.links.items keeps.tells.right))
-    first))
+-- the same where nothing is told since
+pub held-kept : (records : List RecordValue) (old new : Events) (number : ℕ) → new.moves ≡ old.moves
+    → new.traffic.links.items ≡ old.traffic.links.items
+    → CantGoOn records old.moves.items old.traffic.links.items number
+    → CantGoOn records new.moves.items new.traffic.links.items number
+held-kept records old new number moves links cant =
+    subst (λ (ls : List Link). CantGoOn records new.moves.items ls number) (sym links)
+    (subst (λ (ms : List Move). CantGoOn records ms old.traffic.links.items number)
+    (ap (λ m. m.items) (sym moves)) cant)
 
--- ---- how much is left
+-- ---- what is left where records close
 
-pub fewer-left : (cursors : List CursorValue) (place : ℕ) (old new : CursorValue)
-    → slice_get cursors place ≡ Some old → length new.left < length old.left
-    → sum_left (set cursors place new) < sum_left cursors
-fewer-left [] place old new is less = let no : ⊥ = cc in absurd no
-fewer-left (c ∷ cursors) zero old new is less =
-    let e : Some c ≡ Some old = is in
-    let same : c ≡ old = cc in
-    let many = ap (λ (one : CursorValue). length one.left) same in
-    let fewer : length new.left + sum_left cursors < length c.left + sum_left cursors = omega (arith, less, many) in
-    fewer
-fewer-left (c ∷ cursors) (suc place) old new is less =
-    let rest = fewer-left cursors place old new is less in
-    let fewer : length c.left + sum_left (set cursors place new) < length c.left + sum_left cursors =
-    omega (arith, rest) in
-    fewer
+module _ (records : List RecordValue) (events : Events) (keeps : Keeps records events) (place : ℕ) (next : Next)
+    (is : IsNext events place next) where
+  -- it closes no record
+  pub left-open : is_closing (event_of next.entry next.values.now) ≡ false
+      → IsLeft records events.moves.items next.number
+  left-open other = record {
+    place = place;
+    next = did next.number (event_of next.entry next.values.now);
+    is_next = next-there records events keeps place next is;
+    number_is = refl;
+    why = goes_on other;
+  }
 
-pub unmoved-left : (old new : Telling) → IsUnmoved old new → events_left new ≡ events_left old
-unmoved-left old new same = ap sum_left same.cursors
+  -- its instance has ended
+  pub left-ended : (ledger_of events.traffic).living next.number ≡ false
+      → IsLeft records events.moves.items next.number
+  left-ended lives = record {
+    place = place;
+    next = did next.number (event_of next.entry next.values.now);
+    is_next = next-there records events keeps place next is;
+    number_is = refl;
+    why = ended (sym (keeps.tells.living next.number) ∙ lives);
+  }
 
--- a move that is made tells events
-pub left-made : (old : Telling) (place : ℕ) (next : Next) (end : CursorValue) (noted now : Ledger)
-    → IsNext old place next → Acts next.rest end noted now
-    → sum_left (set old.cursors.items place end) < events_left old
-left-made old place next end noted now is acts =
-    let next_one = ap length is.left in
-    let acted = ap length acts.left in
-    let many = length-append acts.acts end.left in
-    fewer-left old.cursors.items place is.cursor end is.is_there (omega (arith, next_one, acted, many))
+  -- the record has closed by then
+  pub left-closed : (new : Events) → Keeps records new
+      → done_of records new ≡ done_of records events ++ did next.number (event_of next.entry next.values.now) ∷ []
+      → is_closing (event_of next.entry next.values.now) ≡ true → (number : ℕ) → HasLeft new place number
+      → IsLeft records new.moves.items number
+  left-closed new kept told is_close number has = by has.one.cursor.left refl
+    where
+      -- both are of the same instance
+      own : next.number ≡ has.one.cursor.number
+      own =
+          let trace : (trace : RecordValue) × (slice_get records place ≡ Some trace) =
+          get-both events.reached.items records keeps.as_many place is.one is.is_there in
+          sym is.number ∙ number-at records events keeps place is.one is.is_there trace.0 trace.1
+          ∙ sym (number-at records new kept place has.one has.is_there trace.0 trace.1)
 
-pub left-kept : (old new : Telling) (place number : ℕ) → IsUnmoved old new → HasLeft old place number
-    → HasLeft new place number
-left-kept old new place number same has = record {
-  cursor = has.cursor;
-  is_there = ap (λ l. slice_get l place) same.cursors ∙ has.is_there;
-  number_is = has.number_is;
-  left = has.left;
-}
-
--- ---- everybody
-
-pub held-more : (records : List RecordValue) (old new : Telling) (place : ℕ) → IsUnmoved old new
-    → ((k : ℕ) → k < place → IsHeldNow records old k) → IsHeldNow records old place → (k : ℕ) → k < place + 1
-    → IsHeldNow records new k
-held-more records old new place same before here k lt = by (k == place) refl
-  where
-    by : (b : Bool) → (k == place) ≡ b → IsHeldNow records new k
-    by true e = held-kept records old new k same (subst (IsHeldNow records old) (sym (eqb-true k place e)) here)
-    by false e =
-        let no = eqb-false k place e in held-kept records old new k same (before k (omega (arith, lt, no)))
-
-pub all-held : (records : List RecordValue) (old new : Telling) (end : ℕ) → Keeps records old
-    → end ≡ length old.cursors.items → ((k : ℕ) → k < end → IsHeldNow records new k) → NobodyNow records new
-all-held records old new end keeps is held place next rest at next_of timed =
-    let within = get-within records place next_of.trace next_of.is_there in
-    let many = keeps.as_many in
-    held place (omega (arith, within, many, is)) next rest at next_of timed
-
--- ---- the latest time
-
-pub latest-kept : (records : List RecordValue) (old new : Telling) → IsUnmoved old new → new.latest ≡ old.latest
-    → IsLatest old.latest (done_of records old) → IsLatest new.latest (done_of records new)
-latest-kept records old new same time was =
-    subst (λ (t : ℕ). IsLatest t (done_of records new)) (sym time)
-    (subst (λ (moves : List Move). IsLatest old.latest (done_by records moves)) (sym same.moves) was)
-
-pub latest-made : (records : List RecordValue) (old new : Telling) (time : Option ℕ) (at : ℕ) → time ≡ Some at
-    → IsUpTo time (done_of records new) → times (done_of records new) ≡ times (done_of records old) ++ time ∷ []
-    → IsLatest at (done_of records new)
-latest-made records old new time at is upto grows = record {
-  up_to = subst (λ (t : Option ℕ). IsUpTo t (done_of records new)) is upto;
-  is_told = λ some.
-      subst (λ (ts : List (Option ℕ)). Contains ts (Some at))
-      (sym (grows ∙ ap (λ (t : Option ℕ). times (done_of records old) ++ t ∷ []) is))
-      (Contains-push (times (done_of records old)) (Some at));
-}
+      by : (left : List Event) → has.one.cursor.left ≡ left → IsLeft records new.moves.items number
+      by [] none =
+          let some = has.left in
+          let no : ⊥ = let many = ap length none in omega (arith, some, many) in absurd no
+      by (e ∷ rest) left = record {
+        place = place;
+        next = did has.one.cursor.number e;
+        is_next = there-next records new kept place has.one has.is_there e rest left;
+        number_is = has.number_is;
+        why = has_closed (did next.number (event_of next.entry next.values.now))
+            (subst (λ (ds : List Did). Contains ds (did next.number (event_of next.entry next.values.now))) (sym told)
+            (Contains-push (done_of records events) (did next.number (event_of next.entry next.values.now))))
+            own is_close;
+      }

@@ -1,11 +1,11 @@
 -- Moves, one after the other, and their times.
-use Rattle.std.proofs.Common.{◌≡◌, ℕ, zero, suc, ◌+◌, ◌-◌, ◌<◌, ◌≤◌, ◌==◌, Bool, true, false, List, [], ◌∷◌, ◌++◌, length, map, set, take, drop, slice_get, Option, None, Some, refl, sym, ◌∙◌, ap, subst, arith, append-nil, append_assoc, if◌then◌else◌}
+use Rattle.std.proofs.Common.{◌≡◌, ℕ, zero, suc, ◌+◌, ◌-◌, ◌<◌, ◌≤◌, ◌==◌, Bool, true, false, List, [], ◌∷◌, ◌++◌, length, set, take, drop, slice_get, Option, None, Some, refl, sym, ◌∙◌, ap, subst, arith, append-nil, append_assoc, if◌then◌else◌}
 use Rattle.std.specs.List.{AllByRecursion, flat_map}
 use Rattle.std.specs.Prelude.{slice_range}
-use Rattle.run_record.specs.Event as event
-use Rattle.view_timeline.specs.Did.{Did, begins, did, time_of}
-use Rattle.view_timeline.specs.Moves.{GoOn, IsNotLater, NeverFall, moves_of, times}
-use Rattle.view_timeline.specs.Telling.{IsUpTo}
+use Rattle.run_record.specs.Event.{Event}
+use Rattle.run_record.specs.Record.{RecordValue}
+use Rattle.view_timeline.specs.Did.{Did, begins, time_of}
+use Rattle.view_timeline.specs.Moves.{GoOn, IsNotLater, IsUpTo, NeverFall, began, began_at, moves_of, times}
 use Rattle.view_timeline.proofs.Gathering.{all-append}
 use Rattle.view_timeline.specs.declared.moves.Move.{Move}
 
@@ -31,6 +31,10 @@ get-set_other (a ∷ xs) zero zero y apart = absurd (apart refl)
 get-set_other (a ∷ xs) zero (suc j) y apart = refl
 get-set_other (a ∷ xs) (suc k) zero y apart = refl
 get-set_other (a ∷ xs) (suc k) (suc j) y apart = get-set_other xs k j y (λ e. apart (ap suc e))
+
+pub get-middle : {A : Type 0} (xs : List A) (x : A) (ys : List A) → slice_get (xs ++ x ∷ ys) (length xs) ≡ Some x
+get-middle [] x ys = refl
+get-middle (a ∷ xs) x ys = get-middle xs x ys
 
 pub drop-left : {A : Type 0} (xs ys : List A) → drop (length xs) (xs ++ ys) ≡ ys
 drop-left [] ys = refl
@@ -91,6 +95,32 @@ pub go_on-last : (from : ℕ) (moves : List Move) (end : ℕ) (m : Move) → GoO
 go_on-last from [] end m goes at = (at ∙ sym goes, refl)
 go_on-last from (a ∷ moves) end m goes at = (goes.0, go_on-last a.end.0 moves end m goes.1 at)
 
+-- ---- when transitions began
+
+-- after one event more
+pub began-last : (before : Option ℕ) (events : List Event) (last : Event)
+    → began before (events ++ last ∷ []) ≡ (if begins last then time_of last else began before events)
+began-last before [] last = refl
+began-last before (event ∷ more) last = began-last (if begins event then time_of event else before) more last
+
+take-past : (events : List Event) (next : Event) (rest : List Event)
+    → take (length events + 1) (events ++ next ∷ rest) ≡ events ++ next ∷ []
+take-past [] next rest = refl
+take-past (event ∷ more) next rest =
+    let one : suc (length more) + 1 ≡ suc (length more + 1) = omega arith in
+    ap (λ (n : ℕ). take n (event ∷ (more ++ next ∷ rest))) one
+    ∙ ap (λ (l : List Event). event ∷ l) (take-past more next rest)
+
+-- the event at a place of a record
+pub began-next : (trace : RecordValue) (first : List Event) (next : Event) (rest : List Event) (place : ℕ)
+    → trace.events ≡ first ++ next ∷ rest → length first ≡ place
+    → began_at trace place ≡ (if begins next then time_of next else began None first)
+began-next trace first next rest place all here =
+    ap (λ (n : ℕ). began None (take (n + 1) trace.events)) (sym here)
+    ∙ ap (λ (l : List Event). began None (take (length first + 1) l)) all
+    ∙ ap (began None) (take-past first next rest)
+    ∙ began-last None first next
+
 -- ---- times
 
 pub times-append : (xs ys : List Did) → times (xs ++ ys) ≡ times xs ++ times ys
@@ -107,23 +137,6 @@ times-append (d ∷ xs) ys = by (begins d.event) refl (times-append xs ys)
         ap (λ b. if b then time_of d.event ∷ times (xs ++ ys) else times (xs ++ ys)) goes_on
         ∙ rest
         ∙ ap (λ b. (if b then time_of d.event ∷ times xs else times xs) ++ times ys) (sym goes_on)
-
-times-acts : (number : ℕ) (acts : List event.Event) → AllByRecursion (λ (one : event.Event). begins one ≡ false) acts
-    → times (map (did number) acts) ≡ []
-times-acts number [] none = refl
-times-acts number (e ∷ acts) none =
-    ap (λ b. if b then time_of e ∷ times (map (did number) acts) else times (map (did number) acts)) none.0
-    ∙ times-acts number acts none.1
-
--- a move adds the time of its first event
-pub times-move : (done : List Did) (number : ℕ) (e : event.Event) (acts : List event.Event) → begins e ≡ true
-    → AllByRecursion (λ (one : event.Event). begins one ≡ false) acts
-    → times (done ++ map (did number) (e ∷ acts)) ≡ times done ++ time_of e ∷ []
-times-move done number e acts begun none =
-    times-append done (map (did number) (e ∷ acts))
-    ∙ ap (λ l. times done ++ l)
-    (ap (λ b. if b then time_of e ∷ times (map (did number) acts) else times (map (did number) acts)) begun
-    ∙ ap (λ l. time_of e ∷ l) (times-acts number acts none))
 
 not_later-itself : (time : Option ℕ) → IsNotLater time time
 not_later-itself None = tt

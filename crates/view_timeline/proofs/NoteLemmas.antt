@@ -17,8 +17,7 @@ use Rattle.sdl_system.specs.declared.route.Target as target
 use Rattle.sdl_system.specs.declared.route.Target.TheVariants as reached
 use Rattle.view_timeline.specs.Did.{Message, did, message_got, sent_by, taken_by}
 use Rattle.view_timeline.specs.Effect.{effect_in}
-use Rattle.view_timeline.specs.Hindered.{IsFirst}
-use Rattle.view_timeline.specs.Rows.{letter}
+use Rattle.view_timeline.specs.Rows.{IsFirst, letter}
 use Rattle.view_timeline.specs.Traffic.{IsMissing, IsToBegun, Ledger, Links, Notes, Passes, Puts, Takes, arrow}
 use Rattle.view_timeline.specs.declared.moves.Link.TheVariants as is
 use Rattle.view_timeline.specs.declared.channel.Channel.{Channel}
@@ -228,11 +227,6 @@ written_back old new n size same =
     ∙ take_all n new (omega (arith, size, same))
 
 -- ---- answers that are Ok
-
-pub on-ok-both : {T E : Type 0} (result : Result T E) (P Q : Type 0) → OnOk result P → OnOk result Q
-    → OnOk result (P × Q)
-on-ok-both (Ok v) P Q one other = (one, other)
-on-ok-both (Err e) P Q one other = tt
 
 pub on-ok-always : {T E : Type 0} (result : Result T E) (P : Type 0) → P → OnOk result P
 on-ok-always (Ok v) P is = is

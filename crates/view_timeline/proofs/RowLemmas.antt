@@ -1,15 +1,13 @@
 -- Rows in their table, where one of them changes.
 use Rattle.std.proofs.Common.{◌≡◌, Bool, true, false, cond, not, List, [], ◌∷◌, ◌++◌, map, get_or, slice_get, None, Some, refl, sym, ◌∙◌, ap, subst, append-nil, if◌then◌else◌}
-use Rattle.std.specs.Option.{IsSome}
+use Rattle.std.specs.Option.{IsSome, option_map_or}
 use Rattle.std.proofs.lemmas.List.{map-append}
 use Rattle.std.specs.Map.{lookup}
-use Rattle.std.specs.Option.{option_map_or}
 use Rattle.indexmap.specs.IndexMap.{IndexMap, UpdatesBy, get}
 use Rattle.port_values.specs.Same.{same_values, same_values-Decides}
 use Rattle.port_values.specs.declared.value.Value.{Value}
 use Rattle.view_timeline.specs.Did.{same_channel}
-use Rattle.view_timeline.specs.Hindered.{IsFirst}
-use Rattle.view_timeline.specs.Rows.{RowsState, Waiting, all_waiting, letter, row_of, waiting_of}
+use Rattle.view_timeline.specs.Rows.{IsFirst, RowsState, Waiting, all_waiting, letter, row_of, waiting_of}
 use Rattle.view_timeline.proofs.Channels.{same-apart, same-true, same_itself}
 use Rattle.view_timeline.specs.declared.channel.Channel.{Channel}
 use Rattle.view_timeline.specs.declared.rows.Row.{Row}
@@ -75,10 +73,6 @@ module _ {S : Type 0} (old new : IndexMap Channel Row S) (channel : Channel) (ro
 
   pub row-others : (q : Channel) → (q ≡ channel → ⊥) → row_of new q ≡ row_of old q
   row-others = row-other old new channel now changed
-
-  -- nothing changed in it
-  pub row-same : now.signals.items ≡ row.signals.items → row_of new channel ≡ row_of old channel
-  row-same same = row-own old new channel now changed ∙ ap (map waiting_of) same ∙ sym was
 
   -- a signal more is in it
   pub row-pushed : (one : Sent) → now.signals.items ≡ row.signals.items ++ one ∷ [] → (q : Channel)

@@ -1,5 +1,5 @@
 -- What an instance did, and what instances send one another (Z.102: output, input).
-use Rattle.std.specs.Prelude.{ℕ, Bool, true, List, Option, None, Some}
+use Rattle.std.specs.Prelude.{ℕ, Bool, true, false, List, Option, None, Some}
 use Rattle.port_model.specs.declared.got.Got as got
 use Rattle.port_model.specs.declared.got.Got.TheVariants as came
 use Rattle.port_values.specs.declared.item.Item.{Item}
@@ -80,6 +80,12 @@ begins (event.FailedAt at why) = true
 begins (event.Rest state) = true
 begins (event.Cut state) = true
 begins event = is_beginning event
+
+-- whether a record closes with the event
+abbrev pub is_closing : event.Event → Bool
+is_closing (event.Rest state) = true
+is_closing (event.Cut state) = true
+is_closing _ = false
 
 -- when it begins; a record closes at no time
 abbrev pub time_of : event.Event → Option ℕ

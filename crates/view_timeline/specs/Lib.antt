@@ -1,13 +1,12 @@
 pub mod Cursor
 pub mod Did
-pub mod Early
 pub mod Effect
+pub mod Events
 pub mod Hindered
 pub mod Linked
 pub mod Lives
 pub mod Moves
-pub mod Replay
+pub mod Parts
 pub mod Rows
-pub mod Telling
 pub mod Timeline
 pub mod Traffic

@@ -1,5 +1,5 @@
 -- The moves of a timeline, and what is done in them.
-use Rattle.std.specs.Prelude.{◌≡◌, ℕ, ◌+◌, ◌==◌, ◌≤◌, true, false, List, [], ◌∷◌, length, map, take, Option, None, Some, slice_get, slice_range, if◌then◌else◌}
+use Rattle.std.specs.Prelude.{◌≡◌, ℕ, ◌+◌, ◌<◌, ◌==◌, ◌≤◌, Contains, false, List, [], ◌∷◌, map, take, Option, None, Some, slice_get, slice_range, if◌then◌else◌}
 use Rattle.std.specs.List.{filter, flat_map, AllByRecursion}
 use Rattle.std.specs.Option.{option_map_or}
 use Rattle.run_record.specs.Event as event
@@ -19,14 +19,9 @@ done_in records move =
 abbrev pub done_by : List RecordValue → List Move → List Did
 done_by records moves = flat_map (done_in records) moves
 
--- ---- each event stands once
+-- ---- parts of transitions
 
--- a transition: an event with which a move begins, and others with which none does
-abbrev pub IsTransition : List event.Event → Type 0
-IsTransition [] = ⊥
-IsTransition (first ∷ rest) = (begins first ≡ true) × AllByRecursion (λ (one : event.Event). begins one ≡ false) rest
-
--- a part of one: a transition may begin with the first of these events, and with no other
+-- a transition may begin with the first of these events, and with no other
 abbrev pub IsOfOne : List event.Event → Type 0
 IsOfOne [] = ⊥
 IsOfOne (first ∷ rest) = AllByRecursion (λ (one : event.Event). begins one ≡ false) rest
@@ -40,14 +35,7 @@ began before (event ∷ more) = began (if begins event then time_of event else b
 abbrev pub began_at : RecordValue → ℕ → Option ℕ
 began_at trace place = began None (take (place + 1) trace.events)
 
--- a move is a transition of one of the records
-pub record IsMove (records : List RecordValue) (move : Move) : Type 0 where
-  pub trace : RecordValue
-  pub is_there : slice_get records move.record.0 ≡ Some trace
-  pub transition : IsTransition (events_in trace move)
-  pub at : move.at ≡ began_at trace move.first.0
-
--- or a part of one
+-- a move is a part of a transition of one of the records, or the whole of it
 pub record IsPart (records : List RecordValue) (move : Move) : Type 0 where
   pub trace : RecordValue
   pub is_there : slice_get records move.record.0 ≡ Some trace
@@ -62,12 +50,6 @@ moves_of place moves = filter (λ (move : Move). move.record.0 == place) moves
 abbrev pub GoOn : ℕ → List Move → ℕ → Type 0
 GoOn from [] end = from ≡ end
 GoOn from (move ∷ more) end = (move.first.0 ≡ from) × GoOn move.end.0 more end
-
--- The moves of a record, in their order, are all its entries, in their order: every event stands once.
-pub record EachOnce (records : List RecordValue) (moves : List Move) : Type 0 where
-  pub transitions : AllByRecursion (IsMove records) moves
-  pub whole : (place : ℕ) (trace : RecordValue) → slice_get records place ≡ Some trace
-      → GoOn 0 (moves_of place moves) (length trace.events)
 
 -- ---- times
 
@@ -86,3 +68,13 @@ IsNotLater None (Some other) = ⊥
 abbrev pub NeverFall : List (Option ℕ) → Type 0
 NeverFall [] = Unit {0}
 NeverFall (time ∷ later) = AllByRecursion (IsNotLater time) later × NeverFall later
+
+-- no move is told that begins later than at this time, and they never fall
+pub record IsUpTo (time : Option ℕ) (done : List Did) : Type 0 where
+  pub forward : NeverFall (times done)
+  pub up_to : AllByRecursion (λ (one : Option ℕ). IsNotLater one time) (times done)
+
+-- no time that is told is later than this one, and it is told, or the first
+pub record IsLatest (time : ℕ) (done : List Did) : Type 0 where
+  pub up_to : IsUpTo (Some time) done
+  pub is_told : 0 < time → Contains (times done) (Some time)

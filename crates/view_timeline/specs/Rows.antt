@@ -1,5 +1,5 @@
 -- What waits in the ports of instances.
-use Rattle.std.specs.Prelude.{ℕ, List, [], ◌∷◌, map, Option, None, Some, if◌then◌else◌}
+use Rattle.std.specs.Prelude.{◌≡◌, ℕ, List, [], ◌∷◌, map, Option, None, Some, if◌then◌else◌}
 use Rattle.std.specs.Option.{option_map_or}
 use Rattle.indexmap.specs.IndexMap.{IndexMap, get}
 use Rattle.port_values.specs.declared.value.Value.{Value}
@@ -19,6 +19,11 @@ pub record Waiting : Type 0 where
 -- what waits on each channel, in the order in which it was sent
 abbrev pub RowsState : Type 0
 RowsState = Channel → List Waiting
+
+-- what waits first has these values
+abbrev pub IsFirst : List Value → List Waiting → Type 0
+IsFirst values [] = ⊥
+IsFirst values (first ∷ rest) = first.values ≡ values
 
 -- a message that was sent at this place, if it's on the channel
 abbrev pub letter : Channel → ℕ → Option Message → List Waiting

@@ -1,19 +1,14 @@
 -- What a timeline of a report is.
-use Rattle.std.specs.Prelude.{◌≡◌, ℕ, ◌<◌, ◌≤◌, nat_eq, true, List, [], ◌++◌, Some, slice_get, length}
+use Rattle.std.specs.Prelude.{◌≡◌, ℕ, ◌<◌, ◌≤◌, nat_eq, true, List, [], Some, slice_get, length}
 use Rattle.std.specs.List.{AllByRecursion}
 use Rattle.indexmap.specs.IndexSet.{contains}
-use Rattle.run_record.specs.Event.{Event}
 use Rattle.run_record.specs.Record.{RecordValue}
 use Rattle.view_timeline.specs.Did.{Did}
-use Rattle.view_timeline.specs.Hindered.{IsClosing, IsNextOf, NobodyGoesOn, WhyLeft}
 use Rattle.view_timeline.specs.Lives.{lives}
 use Rattle.view_timeline.specs.Linked.{Each, IsBelow, IsByLiving, IsDrawn, IsElsePlain, IsInOrder, IsLookedUp, IsSentSo, IsTakenByArrow}
-use Rattle.view_timeline.specs.Moves.{GoOn, IsMove, NeverFall, done_by, moves_of, times}
+use Rattle.view_timeline.specs.Moves.{GoOn, NeverFall, done_by, moves_of, times}
 use Rattle.view_timeline.specs.declared.channel.Channel.{Channel}
-use Rattle.view_timeline.specs.declared.moves.Move.{Move}
 use Rattle.view_timeline.specs.declared.moves.Timeline.{Timeline}
-use Rattle.view_timeline.specs.declared.untold.Untold.{Untold}
-use Rattle.view_timeline.specs.declared.untold.Untold.TheVariants as untold
 
 -- all that was done, in the order of the moves
 abbrev pub done : List RecordValue → Timeline → List Did
@@ -65,37 +60,3 @@ pub record IsBegun (trace : RecordValue) (place : ℕ) (told : Timeline) : Type 
 abbrev pub AreBegun : List RecordValue → Timeline → Type 0
 AreBegun records told = (place : ℕ) (trace : RecordValue) → slice_get records place ≡ Some trace
     → IsBegun trace place told
-
--- A timeline as far as it goes: it says what a timeline says, of the first events of each record; and of one of this
--- number some are left. Once the moves of `made` were told, nobody could go on; then records closed.
-pub record IsStuck (records : List RecordValue) (told : Timeline) (number : ℕ) : Type 0 where
-  pub transitions : AllByRecursion (IsMove records) told.moves.items
-  pub begun : AreBegun records told
-  pub forward : IsForward records told
-  pub arrows : AreArrows records told
-  pub all_takes : AllTakes records told
-  pub in_order : AreInOrder records told
-  pub waiting : IsWaiting records told
-  pub looked_up : AreLookedUp records told
-  pub else_unlinked : IsElseUnlinked records told
-  pub living : AreLiving records told
-  pub place : ℕ
-  pub trace : RecordValue
-  pub is_there : slice_get records place ≡ Some trace
-  pub number_is : trace.pid ≡ number
-  pub end : ℕ
-  pub told_is : GoOn 0 (moves_of place told.moves.items) end
-  pub left : end < length trace.events
-  pub made : List Move
-  pub closings : List Move
-  pub moves_are : told.moves.items ≡ made ++ closings
-  pub only_close : AllByRecursion (IsClosing records) closings
-  pub nobody : NobodyGoesOn records made told.links.items
-  pub next : Did
-  pub rest : List Event
-  pub is_next : IsNextOf records told.moves.items place next rest
-  pub why : WhyLeft records made closings told.links.items place next rest
-
-abbrev pub IsUntold : List RecordValue → Untold → Type 0
-IsUntold records (untold.Stuck told number) = IsStuck records told number
-IsUntold records untold.Memory = Unit {0}

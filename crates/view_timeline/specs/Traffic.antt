@@ -1,14 +1,13 @@
 -- Who lives and what waits, once some of the events are told.
-use Rattle.std.specs.Prelude.{◌≡◌, ℕ, ◌+◌, ◌<◌, Bool, true, nat_eq, List, [], ◌∷◌, ◌++◌, length, map, set, Option, None, Some, if◌then◌else◌, IfSome}
+use Rattle.std.specs.Prelude.{◌≡◌, ℕ, ◌+◌, ◌<◌, Bool, true, false, nat_eq, List, [], ◌∷◌, ◌++◌, length, map, set, Option, None, Some, if◌then◌else◌, IfSome}
 use Rattle.std.specs.List.{AllByRecursion}
 use Rattle.indexmap.specs.IndexSet.{contains}
 use Rattle.run_record.specs.Event.{Event}
 use Rattle.run_record.specs.Record.{RecordValue}
 use Rattle.view_timeline.specs.Did.{Did, Message, looked_up, sent, taken}
-use Rattle.view_timeline.specs.Hindered.{IsFirst}
 use Rattle.view_timeline.specs.Linked.{Each, IsBelow, IsDrawn, IsRight, put_on, taken_on}
 use Rattle.view_timeline.specs.Lives.{begun_on, has_begun, lives, lives_on}
-use Rattle.view_timeline.specs.Rows.{RowsState, Waiting, letter, row_of, waiting_on}
+use Rattle.view_timeline.specs.Rows.{IsFirst, RowsState, Waiting, letter, row_of, waiting_on}
 use Rattle.view_timeline.specs.declared.channel.Channel.{Channel}
 use Rattle.view_timeline.specs.declared.moves.Link.{Link}
 use Rattle.view_timeline.specs.declared.moves.Link.TheVariants as is
@@ -83,6 +82,12 @@ Links None None old new = Passes old new
 -- if the event is an output that names no Pid, its receiver has begun
 abbrev pub IsToBegun : Event → Ledger → Type 0
 IsToBegun event old = IfSome (looked_up event) (λ (number : ℕ). old.begun number ≡ true)
+
+-- it is one, and its receiver has not begun
+pub record IsToUnbegun (event : Event) (old : Ledger) : Type 0 where
+  pub receiver : ℕ
+  pub goes_to : looked_up event ≡ Some receiver
+  pub begun_not : old.begun receiver ≡ false
 
 -- an event is told
 pub record Notes (d : Did) (old new : Ledger) : Type 0 where

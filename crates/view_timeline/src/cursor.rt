@@ -1,6 +1,6 @@
 //! What of a record isn't told yet.
 
-ghost use Rattle.std.specs.Prelude.{◌≡◌, ◌+◌, ◌∷◌, [], IfOk, IfSome, IfNone, MatchOption};
+ghost use Rattle.std.specs.Prelude.{◌≡◌, ◌+◌, ◌∷◌, [], IfOk, IfSome, MatchOption};
 ghost use Rattle.run_record.specs.Entry.{event_of};
 
 use port_values::Value;
@@ -61,18 +61,18 @@ impl<'r> Cursor<'r> {
         })
     }
 
+    /// The number of the instance.
+    pub fn number(&self) -> u32
+        ensures { result ≡ self.now.number }
+    {
+        self.number
+    }
+
     /// How many events are told.
     pub fn told(&self) -> u32
         ensures { result ≡ self.now.told }
     {
         self.passed
-    }
-
-    /// The events that are left.
-    pub fn events(&self) -> Reader<'r>
-        ensures { result ≡ self.now.left }
-    {
-        self.events.again()
     }
 
     /// The next event, if there is one.

@@ -1,15 +1,13 @@
 //! What an entry has to do with the order of moves.
 
-ghost use Rattle.std.specs.Prelude.{◌≡◌, ◌==◌, ℕ, false};
-ghost use Rattle.std.specs.Option.{option_map_or};
+ghost use Rattle.std.specs.Prelude.{◌≡◌};
 ghost use Rattle.port_values.specs.Value.{ValueList};
 ghost use Rattle.run_record.specs.Entry.{event_of};
 ghost use Rattle.view_timeline.specs.Did.{begins, looked_up, time_of};
 ghost use Rattle.view_timeline.specs.Effect.{effect_in};
-ghost use Rattle.view_timeline.specs.Lives.{creates};
 
 use port_values::{SignalId, Ticks};
-use run_record::{Entry, Origin, Stimulus};
+use run_record::{Entry, Stimulus};
 use sdl_system::{Dest, Target};
 
 /// What an entry does to other instances, or to the life of one.
@@ -64,17 +62,6 @@ pub fn looked_up(entry: &Entry) -> Option<u32>
     }
 }
 
-/// The instance that the entry creates.
-pub fn created(entry: &Entry) -> Option<u32>
-    ensures { (values : ValueList) (number : ℕ) → creates number (event_of entry.now values)
-        ≡ option_map_or (λ (made : ℕ). made == number) result false }
-{
-    match *entry {
-        Entry::Create { pid, .. } => pid,
-        _ => None,
-    }
-}
-
 /// Whether a move begins with the entry.
 pub fn begins(entry: &Entry) -> bool
     ensures { (values : ValueList) → result ≡ begins (event_of entry.now values) }
@@ -104,15 +91,5 @@ pub fn time_of(entry: &Entry) -> Option<Ticks>
         | Entry::Provided { at, .. }
         | Entry::FailedAt { at, .. } => Some(Ticks::new(*at)),
         _ => None,
-    }
-}
-
-/// Whether it takes a signal that no instance sent: the environment did, or nobody.
-pub fn is_from_outside(entry: &Entry) -> bool {
-    match entry {
-        Entry::Consumed { got, .. } | Entry::Prior { got, .. } | Entry::Discarded { got, .. } => {
-            matches!(got.origin, Origin::Env | Origin::Null)
-        }
-        _ => false,
     }
 }

@@ -1,28 +1,24 @@
 //! One order of all that was done in a run, and who took what (Z.120: basic message sequence charts).
 //!
 //! A report says what each instance did, and neither when another one did something nor which output an input took.
-//! Both follow from it: of one sender, receiver and name, signals are taken in the order in which they were sent, and a
-//! transition is made as soon as its stimulus is there. `timeline` makes the transitions again in this order, from the
-//! report alone. `specs/Timeline.antt` says what a timeline of a report is.
+//! `timeline_in` tells it in an order that is given, event by event: a transition may be told in several parts, with
+//! parts of others between them. Of one sender, receiver and name, signals are taken in the order in which they were
+//! sent. `specs/Timeline.antt` and `specs/Parts.antt` say what a timeline of a report is.
 #![tactic(auto)]
 
-mod awaited;
+mod admitting;
 mod channel;
 mod cursor;
-mod early;
 mod entries;
+mod events;
 mod moves;
-mod replay;
 mod rows;
-mod sweep;
-mod telling;
+mod told_order;
 mod traffic;
 mod untold;
 
-pub use channel::Channel;
 pub use cursor::{Cursor, Next};
-pub use entries::{begins, looked_up, time_of};
+pub use entries::begins;
 pub use moves::{ArrowId, EntryId, Link, Move, RecordId, Timeline};
-pub use replay::timeline;
-pub use traffic::Traffic;
+pub use told_order::timeline_in;
 pub use untold::Untold;

@@ -1,11 +1,24 @@
 //! One order of all that was done.
 
+ghost use Rattle.std.specs.Prelude.{◌≡◌, IfOk};
+
 use indexmap::IndexSet;
 use port_values::Ticks;
+use std::alloc::AllocError;
 
 /// A record of a report, by its place among them, from 0.
 #[derive(Clone, Copy, PartialEq, Eq)]
 pub struct RecordId(pub u32);
+
+/// The record at this place. Refused where a number has no room for it.
+pub fn record_at(place: usize) -> Result<RecordId, AllocError>
+    ensures { IfOk result (λ made. made.0 ≡ place) }
+{
+    match u32::try_from(place) {
+        Ok(number) => Ok(RecordId(number)),
+        Err(_) => Err(AllocError),
+    }
+}
 
 /// An entry of a record, from 0.
 #[derive(Clone, Copy, PartialEq, Eq)]

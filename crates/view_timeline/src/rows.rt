@@ -1,8 +1,7 @@
 //! What waits in the ports of instances.
 
 ghost use Rattle.std.specs.Prelude.{◌≡◌, ◌++◌, ◌∷◌, IfNone, IfSome, OnOk, Some, []};
-ghost use Rattle.view_timeline.specs.Hindered.{IsFirst};
-ghost use Rattle.view_timeline.specs.Rows.{letter, row_of};
+ghost use Rattle.view_timeline.specs.Rows.{IsFirst, letter, row_of};
 ghost use Rattle.view_timeline.specs.declared.channel.Channel.{Channel};
 
 use crate::channel::Channel;

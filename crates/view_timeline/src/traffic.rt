@@ -6,14 +6,13 @@ ghost use Rattle.run_record.specs.Event as event;
 ghost use Rattle.sdl_system.specs.declared.route.Dest.{Dest};
 ghost use Rattle.view_timeline.specs.Did.{did, message_got, sent_by, taken_by};
 ghost use Rattle.view_timeline.specs.declared.channel.Channel.{Channel};
-ghost use Rattle.view_timeline.specs.Hindered.{IsFirst};
+ghost use Rattle.view_timeline.specs.Rows.{IsFirst};
 ghost use Rattle.view_timeline.specs.Traffic.{IsMissing, IsSame, IsToBegun, Links, Notes, Passes, Puts, Takes, ledger_of};
 
 use crate::channel::Channel;
 use crate::entries::{Effect, effect_of};
 use crate::moves::{ArrowId, EventId, Link};
 use crate::rows::{Rows, Sent};
-use crate::sweep::Sweep;
 use indexmap::IndexSet;
 use port_values::{SignalId, Value};
 use run_record::{Entry, Origin, Stimulus};
@@ -21,7 +20,7 @@ use sdl_system::Target;
 use std::alloc::{AllocError, Global};
 
 /// Who lives, what waits in their ports, and the links of the events that are told so far. It notes one event after the
-/// other, and wakes those that may be able to go on by it. Those that have begun live, or have ended.
+/// other. Those that have begun live, or have ended.
 #[derive(Drop)]
 pub struct Traffic<'r> {
     pub links: Vec<Link>,
@@ -29,7 +28,6 @@ pub struct Traffic<'r> {
     pub living: IndexSet<u32>,
     pub begun: IndexSet<u32>,
     pub rows: Rows<'r>,
-    pub sweep: Sweep,
 }
 
 impl<'r> Traffic<'r> {
@@ -47,11 +45,10 @@ impl<'r> Traffic<'r> {
             living: IndexSet::new(alloc),
             begun: IndexSet::new(alloc),
             rows: Rows::new(alloc),
-            sweep: Sweep::new(alloc),
         }
     }
 
-    /// The instance of this number lives, and may be able to go on.
+    /// The instance of this number lives, and has begun.
     pub fn begin(&mut self, number: u32) -> Result<(), AllocError>
         ensures links { self.new.links ≡ self.old.links }
         ensures arrows { self.new.arrows ≡ self.old.arrows }
@@ -63,7 +60,7 @@ impl<'r> Traffic<'r> {
     {
         self.living.insert(number)?;
         self.begun.insert(number)?;
-        self.sweep.add(number)
+        Ok(())
     }
 
     /// Whether the instance of this number lives.
@@ -96,7 +93,6 @@ impl<'r> Traffic<'r> {
         ensures not_noted { IfOk result (λ noted. IsFalse noted → IsSame (ledger_of self.old) (ledger_of self.new)) }
         ensures missing { IfOk result (λ noted. IsFalse noted
             → IsMissing (taken_by own (event_of entry.now values.now)) (ledger_of self.old)) }
-        ensures still { IfOk result (λ noted. IsFalse noted → self.new.sweep ≡ self.old.sweep) }
     {
         match effect_of(entry) {
             Effect::Takes(got) => self.got(own, got, values),
@@ -151,7 +147,6 @@ impl<'r> Traffic<'r> {
             → IsMissing (message_got own (got_of got values.now)) (ledger_of self.old)) }
         ensures living { self.new.living ≡ self.old.living }
         ensures begun { self.new.begun ≡ self.old.begun }
-        ensures still { IfOk result (λ noted. IsFalse noted → self.new.sweep ≡ self.old.sweep) }
     {
         let Origin::Instance(sender) = got.origin else {
             self.pass()?;
@@ -224,8 +219,7 @@ impl<'r> Traffic<'r> {
         }
         let event = event_id(self.links.len())?;
         self.links.push(Link::Waits)?;
-        self.rows.put(alloc, channel, Sent { event, values })?;
-        self.sweep.wake(channel.receiver)
+        self.rows.put(alloc, channel, Sent { event, values })
     }
 
     /// Notes that what waits first on a channel is taken, if it has these values. Says whether it does; else nothing is
@@ -238,7 +232,6 @@ impl<'r> Traffic<'r> {
             → IsFirst values.now ((ledger_of self.old).rows channel) → ⊥) }
         ensures living { self.new.living ≡ self.old.living }
         ensures begun { self.new.begun ≡ self.old.begun }
-        ensures still { IfOk result (λ taken. IsFalse taken → self.new.sweep ≡ self.old.sweep) }
     {
         let Some(event) = self.rows.take(channel, values) else {
             return Ok(false);

@@ -1,13 +1,13 @@
-//! Why a report has no timeline.
+//! Why a report has no timeline in an order.
 
 use crate::moves::Timeline;
 use std::alloc::AllocError;
 
-/// Why a report has no timeline.
+/// Why a report has no timeline in an order.
 #[derive(Drop)]
 pub enum Untold {
-    /// The instance of this number can't go on: what it takes was never sent to it, or nothing created it, or an instance
-    /// to which it sends. With the timeline as far as it goes. The report of a run on one thread never is so.
+    /// The instance of this number can't go on: what it takes wasn't sent to it by then, or nothing created it, or an
+    /// instance to which it sends. With the timeline as far as it goes.
     Stuck { told: Timeline, number: u32 },
     /// No memory, or more than 2^32 events.
     Memory,

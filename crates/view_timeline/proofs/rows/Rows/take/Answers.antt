@@ -1,8 +1,7 @@
 -- The first signal of a row is taken, or nothing changes.
 use Rattle.std.proofs.Common.{◌∙◌, ap, arith, false, true, refl, sym}
-use Rattle.view_timeline.specs.Hindered.{IsFirst}
-use Rattle.view_timeline.specs.Rows.{row_of}
-use Rattle.view_timeline.proofs.NextLemmas.{if-none-always, no-item}
+use Rattle.view_timeline.specs.Rows.{IsFirst, row_of}
+use Rattle.view_timeline.proofs.Nexts.{if-none-always, no-item}
 use Rattle.view_timeline.proofs.RowLemmas.{row-differs, row-empty, row-none, row-others, row-popped, same-front, values-differ, values-same}
 use Rattle.view_timeline.specs.declared.rows.Row.{Row}
 use Rattle.view_timeline.specs.declared.rows.Sent.{Sent}
