@@ -5,23 +5,13 @@ use Rattle.run_record.specs.declared.record.Report.{Report}
 use Rattle.run_replay.specs.Finder.{IsOrderOf, IsPartOf, Job, job_with}
 use Rattle.sdl_script.specs.declared.script.ScriptLine.{ScriptLine}
 use Rattle.sdl_system.specs.System.{SystemValue}
-use Rattle.view_order.specs.Parts as parts
-use Rattle.view_order.specs.Parts.{IsInOrderOf}
+use Rattle.view_timeline.specs.Parts as parts
+use Rattle.view_timeline.specs.Parts.{IsInOrderOf}
 use Rattle.view_run.specs.Order.{IsToldAsFar, all_told, stops}
-use Rattle.view_timeline.specs.Moves.{EachOnce}
 use Rattle.view_timeline.specs.Timeline.{AreBegun}
 use Rattle.view_timeline.specs.declared.moves.Timeline.{Timeline}
 
--- The moves of each record are its entries up to the last one.
-pub once_begun : (records : List RecordValue) (told : Timeline) → EachOnce records told.moves.items
-    → AreBegun records told
-once_begun records told once = λ place trace there. record {
-  end = length trace.events;
-  within = omega arith;
-  whole = once.whole place trace there;
-}
-
--- so are its parts
+-- The parts of each record are its entries up to the last one.
 pub parts_begun : (records : List RecordValue) (told : Timeline) → parts.EachOnce records told.moves.items
     → AreBegun records told
 parts_begun records told once = λ place trace there. record {

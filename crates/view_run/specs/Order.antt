@@ -1,39 +1,31 @@
 -- The order in which a run is told.
-use Rattle.std.specs.Prelude.{◌≡◌, ℕ, Bool, true, false, List, [], Option, None, Some}
+use Rattle.std.specs.Prelude.{◌≡◌, ℕ, List, [], Option, None, Some}
 use Rattle.run_record.specs.Record.{RecordValue}
 use Rattle.run_record.specs.declared.record.Report.{Report}
 use Rattle.run_replay.specs.Finder.{IsOrderOf, IsPartOf, job_with}
 use Rattle.sdl_script.specs.declared.script.ScriptLine.{ScriptLine}
 use Rattle.sdl_system.specs.System.{SystemValue}
-use Rattle.view_order.specs.Parts as parts
-use Rattle.view_order.specs.Parts.{IsInOrderOf, StopsAt}
+use Rattle.view_timeline.specs.Parts as parts
+use Rattle.view_timeline.specs.Parts.{IsInOrderOf, StopsAt}
 use Rattle.view_steps.specs.Lost.{lost_of}
 use Rattle.view_steps.specs.Sending.{SendingValue}
-use Rattle.view_timeline.specs.Moves.{EachOnce}
-use Rattle.view_timeline.specs.Timeline.{AllTakes, AreArrows, AreInOrder, AreLiving, AreLookedUp, IsElseUnlinked, IsForward, IsStuck, IsWaiting}
 use Rattle.view_timeline.specs.declared.moves.Timeline.{Timeline}
+use Rattle.view_run.specs.declared.order_log.OrderLog.{OrderLog}
+use Rattle.view_run.specs.declared.order_log.OrderLog.TheVariants as log
 
 -- ---- on one thread
 
--- A timeline of these records tells each event once, a whole transition after the other. Times never fall, and a move
--- is made by an instance that lives. Each take of a signal of an instance has an arrow from where it was sent, and
--- arrows of one kind come in the same order at both ends. What was sent to an instance and has no arrow waits, or is
--- gone. An output that names no Pid comes after the create of the instance to which it goes.
-pub record IsTimeline (records : List RecordValue) (told : Timeline) : Type 0 where
-  pub each_once : EachOnce records told.moves.items
-  pub forward : IsForward records told
-  pub arrows : AreArrows records told
-  pub all_takes : AllTakes records told
-  pub in_order : AreInOrder records told
-  pub waiting : IsWaiting records told
-  pub looked_up : AreLookedUp records told
-  pub else_unlinked : IsElseUnlinked records told
-  pub living : AreLiving records told
+-- The events of these records are told of these instances, one after the other: each event once, and what is told is a
+-- timeline. Of a transition they are told in parts only if something of another record comes between.
+pub record IsToldIn (records : List RecordValue) (tellers : List ℕ) (told : Timeline) : Type 0 where
+  pub each_once : parts.EachOnce records told.moves.items
+  pub in_order : IsInOrderOf records tellers told
+  pub says : parts.IsTimeline records told
 
--- A timeline, or what can be told of the records if the instance of this number can't go on.
-abbrev pub IsTimelineTo : Option ℕ → List RecordValue → Timeline → Type 0
-IsTimelineTo None records told = IsTimeline records told
-IsTimelineTo (Some number) records told = IsStuck records told number
+-- so it is, or as far as the instance of this number, which can't go on
+abbrev pub IsToldInTo : Option ℕ → List RecordValue → List ℕ → Timeline → Type 0
+IsToldInTo None records tellers told = IsToldIn records tellers told
+IsToldInTo (Some number) records tellers told = parts.IsStuck records tellers told number
 
 -- ---- with workers
 
@@ -70,10 +62,14 @@ abbrev pub IsToldTo : Option ℕ → SystemValue → List ScriptLine → Report 
 IsToldTo None system lines report told = IsToldInOrder system lines report told
 IsToldTo (Some number) system lines report told = IsToldAsFar system lines report told number
 
--- by the course of a run with workers, or by its report alone
-abbrev pub IsOrderBy : Bool → Option ℕ → SystemValue → List ScriptLine → Report → Timeline → Type 0
-IsOrderBy true stuck system lines report told = IsToldTo stuck system lines report told
-IsOrderBy false stuck system lines report told = IsTimelineTo stuck report.records.items told
+-- ---- of either
+
+-- The order in which a run is told, by what was kept of it. On one thread that is the order that was kept. With workers
+-- some run of the system is made in it, whatever the course says.
+abbrev pub IsOrderBy : OrderLog → Option ℕ → SystemValue → List ScriptLine → Report → Timeline → Type 0
+IsOrderBy (log.Tellers tellers) stuck system lines report told =
+    IsToldInTo stuck report.records.items tellers.items told
+IsOrderBy (log.Course course) stuck system lines report told = IsToldTo stuck system lines report told
 
 -- ---- the script
 

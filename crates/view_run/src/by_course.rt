@@ -15,9 +15,8 @@ use run_replay::{Found, find_order};
 use sdl_script::Script;
 use sdl_system::System;
 use std::alloc::{AllocError, Global};
-use view_order::timeline_in;
 use view_steps::lost_signals;
-use view_timeline::{Timeline, Untold};
+use view_timeline::{Timeline, Untold, timeline_in};
 
 /// The one order of all of a run with workers, by what was kept of its course. It is a run, whatever the course says;
 /// by a wrong one it isn't known to its end.

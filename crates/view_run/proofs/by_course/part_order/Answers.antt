@@ -1,5 +1,5 @@
 use Rattle.std.proofs.Common.{subst}
-use Rattle.view_order.specs.Parts.{IsStuck, IsUntold}
+use Rattle.view_timeline.specs.Parts.{IsStuck, IsUntold}
 use Rattle.view_run.proofs.OrderLaws.{all_as_far, as_far, parts_begun}
 use Rattle.view_run.proofs.by_course.part_order.Goals as goal
 
