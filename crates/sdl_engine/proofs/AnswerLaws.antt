@@ -1,5 +1,5 @@
 -- What the calls of a command give, put together into what is said of the input.
-use Rattle.std.proofs.Common.{◌≡◌, ap, sym, subst, refl, inl, inr, ℕ, List, Option, None, Some, is_some, Bool, true, false, Result, Ok, Err, IfOk, IfErr, OnOk}
+use Rattle.std.proofs.Common.{◌≡◌, ap, sym, subst, refl, inl, inr, ℕ, List, Option, None, Some, Bool, true, false, Result, Ok, Err, IfOk, IfErr, OnOk}
 use Rattle.std.specs.Io.KnownBytes.{Appends}
 use Rattle.sdl_input.specs.Input.{IsRead}
 use Rattle.sdl_input.specs.declared.input.Input.{Input}
@@ -13,6 +13,7 @@ use Rattle.run_record.specs.declared.run_error.RunError.{RunError}
 use Rattle.run_record.specs.declared.run_error.RunError.TheVariants as run
 use Rattle.sdl_script.specs.declared.script.ScriptLine.{ScriptLine}
 use Rattle.sdl_system.specs.System.{SystemValue}
+use Rattle.view_run.specs.declared.order_log.OrderLog.{OrderLog}
 use Rattle.sdl_engine.specs.Answer.{Allows, AllowsOfRun, BreaksOff, BreaksOffRun, BreaksOffTelling, FailsToTell, FailsToTellRun, Faulted, Fails, IsRunOfInput, IsRunRefused, IsSerial, PrintsInput, Refuses, Says, SaysCut, SaysWhole, Tells, TellsRun, Written, carried, fault_of, outcome_by, outcome_of, workers_by}
 use Rattle.sdl_engine.specs.RefusalText.{refusal_line}
 use Rattle.sdl_engine.specs.Views.{IsTold}
@@ -37,42 +38,35 @@ pub carried_same : (options : Options) → IsSerial options → carried false op
 carried_same options serial =
     ap (λ (w : Option ℕ). record options { workers = w }) (workers_same options.command options.workers serial)
 
--- a run is told as one with workers, or without, by what was asked for
-told_as : (options : Options) (workers : Option ℕ) (has_workers : Bool) (system : SystemValue) (report : Report)
-    (lines : List ScriptLine) (stuck : Option ℕ) (text : List ℕ) → options.workers ≡ workers →
-    has_workers ≡ is_some workers → IsTold options.view has_workers system report lines stuck text →
-    IsTold options.view (is_some options.workers) system report lines stuck text
-told_as options workers has_workers system report lines stuck text by has told =
-    subst (λ (w : Option ℕ). IsTold options.view (is_some w) system report lines stuck text) (sym by)
-    (subst (λ (b : Bool). IsTold options.view b system report lines stuck text) has told)
-
 -- what tells a run is what is said of its input
-pub run_says : (input : Input) (options : Options) (workers : Option ℕ) (has_workers : Bool) (system : SystemValue)
-    (report : Report) (lines : List ScriptLine) (whole : Bool) (stuck : Option ℕ) (text : List ℕ) →
-    options.command ≡ command.Run → options.workers ≡ workers → has_workers ≡ is_some workers →
-    report.whole ≡ whole → IsRunOfInput input workers options.limit system report lines →
-    IsTold options.view has_workers system report lines stuck text → Says input options (outcome_by whole) text
-run_says (Held texts) options workers has_workers system report lines true stuck text asked by has is run told =
+pub run_says : (input : Input) (options : Options) (workers : Option ℕ) (system : SystemValue) (report : Report)
+    (lines : List ScriptLine) (log : Option OrderLog) (whole : Bool) (stuck : Option ℕ)
+    (text : List ℕ) → options.command ≡ command.Run → options.workers ≡ workers → report.whole ≡ whole →
+    IsRunOfInput input workers options.limit system report lines log →
+    IsTold options.view log system report lines stuck text → Says input options (outcome_by whole) text
+run_says (Held texts) options workers system report lines log true stuck text asked by is run told =
     subst (λ c. SaysWhole c options.workers texts options.limit options.view text) (sym asked) (record {
       system = system;
       report = report;
       lines = lines;
-      run = subst (λ w. IsRunOfInput (Held texts) w options.limit system report lines) (sym by) run;
+      log = log;
+      run = subst (λ w. IsRunOfInput (Held texts) w options.limit system report lines log) (sym by) run;
       is_whole = is;
       stuck = stuck;
-      says = told_as options workers has_workers system report lines stuck text by has told;
+      says = told;
     })
-run_says (Held texts) options workers has_workers system report lines false stuck text asked by has is run told =
+run_says (Held texts) options workers system report lines log false stuck text asked by is run told =
     subst (λ c. SaysCut c options.workers texts options.limit options.view text) (sym asked) (record {
       system = system;
       report = report;
       lines = lines;
-      run = subst (λ w. IsRunOfInput (Held texts) w options.limit system report lines) (sym by) run;
+      log = log;
+      run = subst (λ w. IsRunOfInput (Held texts) w options.limit system report lines log) (sym by) run;
       is_whole = is;
       stuck = stuck;
-      says = told_as options workers has_workers system report lines stuck text by has told;
+      says = told;
     })
-run_says TooLong options workers has_workers system report lines whole stuck text asked by has is run told = absurd run
+run_says TooLong options workers system report lines log whole stuck text asked by is run told = absurd run
 
 -- so is the canonical text of its specification
 pub canonical_says : (input : Input) (options : Options) (text : List ℕ) → options.command ≡ command.Check →
@@ -222,74 +216,74 @@ faulted_by text script old new input options (Err why) read off =
 
 -- ---- a run
 
-pub run_tells : (input : Input) (options : Options) (workers : Option ℕ) (has_workers : Bool) (system : SystemValue)
-    (report : Report) (lines : List ScriptLine) (stuck : Option ℕ) (old new : Option (List ℕ))
+pub run_tells : (input : Input) (options : Options) (workers : Option ℕ) (system : SystemValue) (report : Report)
+    (lines : List ScriptLine) (log : Option OrderLog) (stuck : Option ℕ) (old new : Option (List ℕ))
     (r : Result Outcome TextFault) → options.command ≡ command.Run → options.workers ≡ workers →
-    has_workers ≡ is_some workers → IsRunOfInput input workers options.limit system report lines →
+    IsRunOfInput input workers options.limit system report lines log →
     IfOk r (λ how. how ≡ outcome_by report.whole) →
-    OnOk r (TellsRun options.view has_workers system report lines stuck old new) →
+    OnOk r (TellsRun options.view log system report lines stuck old new) →
     IfOk r (λ how. Tells input options how old new)
-run_tells input options workers has_workers system report lines stuck old new (Ok how) asked by has run is tells =
+run_tells input options workers system report lines log stuck old new (Ok how) asked by run is tells =
     record {
       text = tells.text;
       says = subst (λ o. Says input options o tells.text) (sym is)
-          (run_says input options workers has_workers system report lines report.whole stuck tells.text asked by has
+          (run_says input options workers system report lines log report.whole stuck tells.text asked by
           refl run tells.says);
       out = tells.out;
     }
-run_tells input options workers has_workers system report lines stuck old new (Err why) asked by has run is tells = tt
+run_tells input options workers system report lines log stuck old new (Err why) asked by run is tells = tt
 
-breaks_off_run : (input : Input) (options : Options) (workers : Option ℕ) (has_workers : Bool) (system : SystemValue)
-    (report : Report) (lines : List ScriptLine) (old new : Option (List ℕ)) → options.command ≡ command.Run →
-    options.workers ≡ workers → has_workers ≡ is_some workers →
-    IsRunOfInput input workers options.limit system report lines →
-    BreaksOffRun options.view has_workers system report lines old new → BreaksOffTelling input options old new
-breaks_off_run input options workers has_workers system report lines old new asked by has run off = record {
+breaks_off_run : (input : Input) (options : Options) (workers : Option ℕ) (system : SystemValue) (report : Report)
+    (lines : List ScriptLine) (log : Option OrderLog) (old new : Option (List ℕ)) →
+    options.command ≡ command.Run → options.workers ≡ workers →
+    IsRunOfInput input workers options.limit system report lines log →
+    BreaksOffRun options.view log system report lines old new → BreaksOffTelling input options old new
+breaks_off_run input options workers system report lines log old new asked by run off = record {
   how = outcome_by report.whole;
   text = off.text;
-  says = run_says input options workers has_workers system report lines report.whole off.stuck off.text asked by has
+  says = run_says input options workers system report lines log report.whole off.stuck off.text asked by
       refl run off.says;
   breaks = off.breaks;
 }
 
-run_fails' : (input : Input) (options : Options) (workers : Option ℕ) (has_workers : Bool) (system : SystemValue)
-    (report : Report) (lines : List ScriptLine) (old new : Option (List ℕ)) (why : TextFault) →
-    options.command ≡ command.Run → options.workers ≡ workers → has_workers ≡ is_some workers →
-    IsRunOfInput input workers options.limit system report lines →
-    FailsToTellRun why options.view has_workers system report lines old new → Fails why input options old new
-run_fails' input options workers has_workers system report lines old new fault.Read asked by has run off = absurd off
-run_fails' input options workers has_workers system report lines old new fault.Write asked by has run off =
-    breaks_off_run input options workers has_workers system report lines old new asked by has run off
-run_fails' input options workers has_workers system report lines old new fault.Memory asked by has run off = elim off [
+run_fails' : (input : Input) (options : Options) (workers : Option ℕ) (system : SystemValue) (report : Report)
+    (lines : List ScriptLine) (log : Option OrderLog) (old new : Option (List ℕ)) (why : TextFault) →
+    options.command ≡ command.Run → options.workers ≡ workers →
+    IsRunOfInput input workers options.limit system report lines log →
+    FailsToTellRun why options.view log system report lines old new → Fails why input options old new
+run_fails' input options workers system report lines log old new fault.Read asked by run off = absurd off
+run_fails' input options workers system report lines log old new fault.Write asked by run off =
+    breaks_off_run input options workers system report lines log old new asked by run off
+run_fails' input options workers system report lines log old new fault.Memory asked by run off = elim off [
   | inl kept ↦ inl kept
   | inr broken ↦
-      inr (breaks_off_run input options workers has_workers system report lines old new asked by has run broken)
+      inr (breaks_off_run input options workers system report lines log old new asked by run broken)
 ]
 
-pub run_fails : (input : Input) (options : Options) (workers : Option ℕ) (has_workers : Bool) (system : SystemValue)
-    (report : Report) (lines : List ScriptLine) (old new : Option (List ℕ)) (r : Result Outcome TextFault) →
-    options.command ≡ command.Run → options.workers ≡ workers → has_workers ≡ is_some workers →
-    IsRunOfInput input workers options.limit system report lines →
-    IfErr r (λ why. FailsToTellRun why options.view has_workers system report lines old new) →
+pub run_fails : (input : Input) (options : Options) (workers : Option ℕ) (system : SystemValue) (report : Report)
+    (lines : List ScriptLine) (log : Option OrderLog) (old new : Option (List ℕ))
+    (r : Result Outcome TextFault) → options.command ≡ command.Run → options.workers ≡ workers →
+    IsRunOfInput input workers options.limit system report lines log →
+    IfErr r (λ why. FailsToTellRun why options.view log system report lines old new) →
     IfErr r (λ why. Fails why input options old new)
-run_fails input options workers has_workers system report lines old new (Ok how) asked by has run off = tt
-run_fails input options workers has_workers system report lines old new (Err why) asked by has run off =
-    run_fails' input options workers has_workers system report lines old new why asked by has run off
+run_fails input options workers system report lines log old new (Ok how) asked by run off = tt
+run_fails input options workers system report lines log old new (Err why) asked by run off =
+    run_fails' input options workers system report lines log old new why asked by run off
 
 -- ---- a view
 
 -- what went out of a text that tells a run, before a fault of writing it
-pub view_fails : (why : WriteFault) (view : View) (has_workers : Bool) (system : SystemValue) (report : Report)
+pub view_fails : (why : WriteFault) (view : View) (log : Option OrderLog) (system : SystemValue) (report : Report)
     (lines : List ScriptLine) (stuck : Option ℕ) (text : List ℕ) (old new : Option (List ℕ)) →
-    IsTold view has_workers system report lines stuck text → gathered.BreaksOff old new text →
-    FailsToTellRun (fault_of why) view has_workers system report lines old new
-view_fails written.Write view has_workers system report lines stuck text old new told off = record {
+    IsTold view log system report lines stuck text → gathered.BreaksOff old new text →
+    FailsToTellRun (fault_of why) view log system report lines old new
+view_fails written.Write view log system report lines stuck text old new told off = record {
   text = text;
   stuck = stuck;
   says = told;
   breaks = off;
 }
-view_fails written.Memory view has_workers system report lines stuck text old new told off = inr (record {
+view_fails written.Memory view log system report lines stuck text old new told off = inr (record {
   text = text;
   stuck = stuck;
   says = told;

@@ -1,5 +1,5 @@
 -- Whether an instance of a run failed, by the notes of it.
-use Rattle.std.proofs.Common.{◌≡◌, ℕ, Bool, true, false, List, Option, None, Some, is_some, Result, Ok, Err, IfOk, IfSome, OnOk, inl, inr, subst, sym}
+use Rattle.std.proofs.Common.{◌≡◌, ℕ, Bool, true, false, List, Option, None, Some, Result, Ok, Err, IfOk, IfSome, OnOk, inl, inr, subst, sym}
 use Rattle.failure_replay.specs.Ending.{has_failed}
 use Rattle.sdl_input.specs.declared.input.Input.{Input}
 use Rattle.sdl_engine.specs.Answer.{IsRunOfInput, TellsRun, outcome_by, outcome_of}
@@ -32,19 +32,19 @@ tells_none failed kept = if_none (λ (r : Run). failed ≡ has_failed r.report.r
 -- by the run that was told
 pub run_failed : (input : Input) (options : Options) (workers : Option ℕ) (run : Run) (before stuck : Option ℕ)
     (failed : Bool) (old new : Option (List ℕ)) (r : Result Outcome TextFault) → options.command ≡ command.Run
-    → options.workers ≡ workers → run.has_workers ≡ is_some workers
-    → IsRunOfInput input workers options.limit run.system run.report run.script.lines.items
+    → options.workers ≡ workers
+    → IsRunOfInput input workers options.limit run.system run.report run.script.lines.items run.log
     → IfOk r (λ how. how ≡ outcome_by run.report.whole)
-    → OnOk r (TellsRun options.view run.has_workers run.system run.report run.script.lines.items before old new)
+    → OnOk r (TellsRun options.view run.log run.system run.report run.script.lines.items before old new)
     → stuck ≡ before → failed ≡ has_failed run.report.records.items
     → IfOk r (λ how. SaysFailed input options how stuck failed old new)
-run_failed input options workers run before stuck failed old new (Ok how) asked by has ran is tells same fails =
+run_failed input options workers run before stuck failed old new (Ok how) asked by ran is tells same fails =
     inr (record {
       run = run;
-      told = told_run input options workers how run before stuck old new asked by has ran is tells same;
+      told = told_run input options workers how run before stuck old new asked by ran is tells same;
       is = fails;
     })
-run_failed input options workers run before stuck failed old new (Err why) asked by has ran is tells same fails = tt
+run_failed input options workers run before stuck failed old new (Err why) asked by ran is tells same fails = tt
 
 -- of a refusal no run was told
 refused_no_run : (options : Options) (how : Outcome) (why : Refusal) → how ≡ outcome_of why → TellsNoRun options how

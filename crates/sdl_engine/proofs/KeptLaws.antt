@@ -1,5 +1,5 @@
 -- What holds of a run that is kept.
-use Rattle.std.proofs.Common.{◌≡◌, ℕ, Bool, true, false, List, Option, None, Some, is_some, Result, Ok, Err, IfOk, IfSome, OnOk, inl, refl, subst, sym}
+use Rattle.std.proofs.Common.{◌≡◌, ℕ, Bool, true, false, List, Option, None, Some, Result, Ok, Err, IfOk, IfSome, OnOk, inl, refl, subst, sym}
 use Rattle.sdl_input.specs.declared.input.Input.{Input}
 use Rattle.sdl_engine.specs.Answer.{IsRunOfInput, TellsRun, outcome_by}
 use Rattle.sdl_engine.specs.Kept.{IsToldRun, KeepsRun}
@@ -24,19 +24,18 @@ if_none P kept none = subst (λ (k : Option Run). IfSome k P) (sym none) tt
 -- it is known by the options as they were carried out
 pub told_run : (input : Input) (options : Options) (workers : Option ℕ) (how : Outcome) (run : Run)
     (before stuck : Option ℕ) (old new : Option (List ℕ)) → options.command ≡ command.Run
-    → options.workers ≡ workers → run.has_workers ≡ is_some workers
-    → IsRunOfInput input workers options.limit run.system run.report run.script.lines.items
+    → options.workers ≡ workers
+    → IsRunOfInput input workers options.limit run.system run.report run.script.lines.items run.log
     → how ≡ outcome_by run.report.whole
-    → TellsRun options.view run.has_workers run.system run.report run.script.lines.items before old new
+    → TellsRun options.view run.log run.system run.report run.script.lines.items before old new
     → stuck ≡ before → IsToldRun input options how run stuck old new
-told_run input options workers how run before stuck old new asked by has ran is tells same = record {
+told_run input options workers how run before stuck old new asked by ran is tells same = record {
   asked = asked;
   ran = subst (λ (w : Option ℕ).
-      IsRunOfInput input w options.limit run.system run.report run.script.lines.items) (sym by) ran;
-  workers = subst (λ (w : Option ℕ). run.has_workers ≡ is_some w) (sym by) has;
+      IsRunOfInput input w options.limit run.system run.report run.script.lines.items run.log) (sym by) ran;
   came = is;
   tells = subst (λ (s : Option ℕ).
-      TellsRun options.view run.has_workers run.system run.report run.script.lines.items s old new) (sym same) tells;
+      TellsRun options.view run.log run.system run.report run.script.lines.items s old new) (sym same) tells;
 }
 
 -- it is the run that is kept, or none is
@@ -51,13 +50,13 @@ keeps_told false input options how run kept stuck old new told holds drops =
 
 pub run_kept : (keeps : Bool) (input : Input) (options : Options) (workers : Option ℕ) (run : Run) (kept : Option Run)
     (before stuck : Option ℕ) (old new : Option (List ℕ)) (r : Result Outcome TextFault)
-    → options.command ≡ command.Run → options.workers ≡ workers → run.has_workers ≡ is_some workers
-    → IsRunOfInput input workers options.limit run.system run.report run.script.lines.items
+    → options.command ≡ command.Run → options.workers ≡ workers
+    → IsRunOfInput input workers options.limit run.system run.report run.script.lines.items run.log
     → IfOk r (λ how. how ≡ outcome_by run.report.whole)
-    → OnOk r (TellsRun options.view run.has_workers run.system run.report run.script.lines.items before old new)
+    → OnOk r (TellsRun options.view run.log run.system run.report run.script.lines.items before old new)
     → stuck ≡ before → (keeps ≡ true → kept ≡ Some run) → (keeps ≡ false → kept ≡ None)
     → IfOk r (λ how. KeepsRun keeps input options how kept stuck old new)
-run_kept keeps input options workers run kept before stuck old new (Ok how) asked by has ran is tells same kept' drops =
+run_kept keeps input options workers run kept before stuck old new (Ok how) asked by ran is tells same kept' drops =
     keeps_told keeps input options how run kept stuck old new
-    (told_run input options workers how run before stuck old new asked by has ran is tells same) kept' drops
-run_kept keeps input options workers run kept before stuck old new (Err why) asked by has ran is tells same kept' drops = tt
+    (told_run input options workers how run before stuck old new asked by ran is tells same) kept' drops
+run_kept keeps input options workers run kept before stuck old new (Err why) asked by ran is tells same kept' drops = tt

@@ -1,5 +1,5 @@
 -- What the program answers to its input.
-use Rattle.std.specs.Prelude.{◌≡◌, ◌⊎◌, ℕ, Bool, true, false, List, Option, None, Some, is_some}
+use Rattle.std.specs.Prelude.{◌≡◌, ◌⊎◌, ℕ, Bool, true, false, List, Option, None, Some, IfSome}
 use Rattle.std.specs.Io.KnownBytes.{Appends, Keeps}
 use Rattle.sdl_build.specs.Built.{IsBuilt}
 use Rattle.sdl_build.specs.Outcome.{IsRefusedAs}
@@ -32,7 +32,9 @@ use Rattle.sdl_system.specs.System.{SystemValue}
 use Rattle.sdl_tree.specs.Canonical.{canonical_text}
 use Rattle.sdl_tree.specs.Tree.{Tree}
 use Rattle.settle_meaning.specs.Settled.{IsSettledReport}
+use Rattle.view_run.specs.declared.order_log.OrderLog.{OrderLog}
 use Rattle.sdl_engine.specs.Behaviours.{AreOfText}
+use Rattle.sdl_engine.specs.Log.{IsLogBy}
 use Rattle.sdl_engine.specs.RefusalText.{refusal_line}
 use Rattle.sdl_engine.specs.Views.{IsTold}
 use Rattle.sdl_engine.specs.declared.options.Command.{Command}
@@ -69,26 +71,29 @@ IsReportBy (Some workers) ps system lines limit report =
     AreBehaviours system ps × IsSettledReport system lines limit report
 
 -- The report is that of a run of the system of an accepted input on its script, cut at the limit if it comes to that: so
--- for all behaviours that the texts of the processes have, and they have some. The script has these lines.
+-- for all behaviours that the texts of the processes have, and they have some. The script has these lines. What was kept
+-- for the order, if anything was, is that of such a run.
 pub record IsRunOf (texts : Texts) (workers : Option ℕ) (limit : ℕ) (system : SystemValue) (report : Report)
-    (lines : List ScriptLine) : Type 0 where
+    (lines : List ScriptLine) (log : Option OrderLog) : Type 0 where
   pub tree : Tree
   pub accepted : IsAccepted texts tree system lines
   pub behaves : (ps : List Behaviour) × AreOfText accepted.built.context system ps
   pub ran : (ps : List Behaviour) → AreOfText accepted.built.context system ps
       → IsReportBy workers ps system lines limit report
+  pub kept : (ps : List Behaviour) → AreOfText accepted.built.context system ps
+      → IfSome log (IsLogBy workers ps system lines limit report)
 
--- the text that tells the report of such a run, of one that is whole or of one that was cut, as of one with workers if
--- it has some
+-- the text that tells such a run, one that is whole or one that was cut; its order is told by what was kept for that
 pub record Reports (texts : Texts) (workers : Option ℕ) (limit : ℕ) (view : View) (whole : Bool)
     (text : List ℕ) : Type 0 where
   pub system : SystemValue
   pub report : Report
   pub lines : List ScriptLine
-  pub run : IsRunOf texts workers limit system report lines
+  pub log : Option OrderLog
+  pub run : IsRunOf texts workers limit system report lines log
   pub is_whole : report.whole ≡ whole
   pub stuck : Option ℕ
-  pub says : IsTold view (is_some workers) system report lines stuck text
+  pub says : IsTold view log system report lines stuck text
 
 -- the canonical text of the tree of an accepted input
 pub record Prints (texts : Texts) (text : List ℕ) : Type 0 where
@@ -264,9 +269,9 @@ PrintsInput (Held texts) text = Prints texts text
 PrintsInput TooLong text = ⊥
 
 -- the run of an input
-abbrev pub IsRunOfInput : Input → Option ℕ → ℕ → SystemValue → Report → List ScriptLine → Type 0
-IsRunOfInput (Held texts) workers limit system report lines = IsRunOf texts workers limit system report lines
-IsRunOfInput TooLong workers limit system report lines = ⊥
+abbrev pub IsRunOfInput : Input → Option ℕ → ℕ → SystemValue → Report → List ScriptLine → Option OrderLog → Type 0
+IsRunOfInput (Held texts) workers limit system report lines log = IsRunOf texts workers limit system report lines log
+IsRunOfInput TooLong workers limit system report lines log = ⊥
 
 -- whether a report is whole, as an outcome
 abbrev pub outcome_by : Bool → Outcome
@@ -284,30 +289,30 @@ BreaksOff fault.Read text old new = ⊥
 BreaksOff fault.Write text old new = gathered.BreaksOff old new text
 BreaksOff fault.Memory text old new = gathered.BreaksOff old new text
 
--- the text that tells a run with workers, or without, went out, in its order up to the instance that can't go on, if
--- one can't
-pub record TellsRun (view : View) (has_workers : Bool) (system : SystemValue) (report : Report)
+-- the text that tells a run of which this was kept went out, in its order up to the instance that can't go on, if one
+-- can't
+pub record TellsRun (view : View) (log : Option OrderLog) (system : SystemValue) (report : Report)
     (lines : List ScriptLine) (stuck : Option ℕ) (old new : Option (List ℕ)) : Type 0 where
   pub text : List ℕ
-  pub says : IsTold view has_workers system report lines stuck text
+  pub says : IsTold view log system report lines stuck text
   pub out : Appends old new text
 
 -- a beginning of the text that tells a run went out, and not all of it
-pub record BreaksOffRun (view : View) (has_workers : Bool) (system : SystemValue) (report : Report)
+pub record BreaksOffRun (view : View) (log : Option OrderLog) (system : SystemValue) (report : Report)
     (lines : List ScriptLine) (old new : Option (List ℕ)) : Type 0 where
   pub text : List ℕ
   pub stuck : Option ℕ
-  pub says : IsTold view has_workers system report lines stuck text
+  pub says : IsTold view log system report lines stuck text
   pub breaks : gathered.BreaksOff old new text
 
 -- what went out of a run before this fault: nothing, where there was no memory for its order
-abbrev pub FailsToTellRun : TextFault → View → Bool → SystemValue → Report → List ScriptLine → Option (List ℕ)
-    → Option (List ℕ) → Type 0
-FailsToTellRun fault.Read view has_workers system report lines old new = ⊥
-FailsToTellRun fault.Write view has_workers system report lines old new =
-    BreaksOffRun view has_workers system report lines old new
-FailsToTellRun fault.Memory view has_workers system report lines old new =
-    Keeps old new ⊎ BreaksOffRun view has_workers system report lines old new
+abbrev pub FailsToTellRun : TextFault → View → Option OrderLog → SystemValue → Report → List ScriptLine
+    → Option (List ℕ) → Option (List ℕ) → Type 0
+FailsToTellRun fault.Read view log system report lines old new = ⊥
+FailsToTellRun fault.Write view log system report lines old new =
+    BreaksOffRun view log system report lines old new
+FailsToTellRun fault.Memory view log system report lines old new =
+    Keeps old new ⊎ BreaksOffRun view log system report lines old new
 
 -- what went out of the line of a refusal, which is made first: nothing, where there was no memory to make it
 abbrev pub FailsToTell : TextFault → List ℕ → Option (List ℕ) → Option (List ℕ) → Type 0

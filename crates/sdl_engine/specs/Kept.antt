@@ -1,26 +1,35 @@
 -- What is kept of a run for those who draw it, or tell what it covered.
-use Rattle.std.specs.Prelude.{◌≡◌, ◌⊎◌, ℕ, Bool, true, false, List, Option, None, Some, is_some}
+use Rattle.std.specs.Prelude.{◌≡◌, ◌⊎◌, ℕ, Bool, true, false, List, Option, None, Some, IfSome}
 use Rattle.failure_replay.specs.Ending.{has_failed}
+use Rattle.run_semantics.specs.Behaves.{AreBehaviours}
 use Rattle.sdl_input.specs.Input.{IsRead}
 use Rattle.sdl_input.specs.declared.input.Input.{Input}
 use Rattle.sdl_input.specs.declared.input.Input.TheVariants.{Held, TooLong}
 use Rattle.sdl_input.specs.declared.texts.Texts.{Texts}
+use Rattle.sdl_system.specs.Behaviour.{Behaviour}
 use Rattle.sdl_engine.specs.Answer.{IsRunOfInput, TellsRun, outcome_by}
+use Rattle.sdl_engine.specs.Log.{IsLogBy}
 use Rattle.sdl_engine.specs.declared.options.Command.TheVariants as command
 use Rattle.sdl_engine.specs.declared.options.Options.{Options}
 use Rattle.sdl_engine.specs.declared.options.Outcome.{Outcome}
 use Rattle.sdl_engine.specs.declared.options.Outcome.TheVariants as outcome
 use Rattle.sdl_engine.specs.declared.run.Run.{Run}
 
--- This is a run of the input as it was asked for, and known as one with workers just if it has some. It came to this,
--- and what went out tells it, up to the instance that can't go on, if one can't.
+-- What was kept of this run, with so many workers, so that its order can be told: for all behaviours that the processes
+-- of its system mean.
+abbrev pub IsLogged : Option ℕ → ℕ → Run → Type 0
+IsLogged workers limit run = (ps : List Behaviour) → AreBehaviours run.system ps
+    → IfSome run.log (IsLogBy workers ps run.system run.script.lines.items limit run.report)
+
+-- This is a run of the input as it was asked for. It came to this, and what went out tells it, up to the instance that
+-- can't go on, if one can't.
 pub record IsToldRun (input : Input) (options : Options) (how : Outcome) (run : Run) (stuck : Option ℕ)
     (old new : Option (List ℕ)) : Type 0 where
   pub asked : options.command ≡ command.Run
   pub ran : IsRunOfInput input options.workers options.limit run.system run.report run.script.lines.items
-  pub workers : run.has_workers ≡ is_some options.workers
+      run.log
   pub came : how ≡ outcome_by run.report.whole
-  pub tells : TellsRun options.view run.has_workers run.system run.report run.script.lines.items stuck old new
+  pub tells : TellsRun options.view run.log run.system run.report run.script.lines.items stuck old new
 
 -- No run was told: it was a check, or something was refused.
 abbrev pub TellsNoRun : Options → Outcome → Type 0

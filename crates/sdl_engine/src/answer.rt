@@ -26,9 +26,9 @@ pub fn report<E: Runner, W: Write, N: Write>(
     options: &Options,
 ) -> Result<Outcome, TextFault>
     ensures how { IfOk result (λ how. how ≡ outcome_by run.now.report.whole) }
-    ensures ok { OnOk result (TellsRun options.now.view run.now.has_workers run.now.system run.now.report
+    ensures ok { OnOk result (TellsRun options.now.view run.now.log run.now.system run.now.report
         run.now.script.lines.items notes.new.stuck (W.contents writer.old) (W.contents writer.new)) }
-    ensures err { IfErr result (λ fault. FailsToTellRun fault options.now.view run.now.has_workers run.now.system
+    ensures err { IfErr result (λ fault. FailsToTellRun fault options.now.view run.now.log run.now.system
         run.now.report run.now.script.lines.items (W.contents writer.old) (W.contents writer.new)) }
     ensures quiet { result ≢ Ok Outcome.Cut → options.now.view ≡ View.Trace →
         Keeps (N.contents notes.old.writer) (N.contents notes.new.writer) }

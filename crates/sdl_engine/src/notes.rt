@@ -46,8 +46,8 @@ pub struct Notes<'n, N> {
     pub stuck: Option<u32>,
     /// Whether the run is kept for those who draw it, or tell what it covered.
     pub keeps: bool,
-    /// Whether the course of a run with workers is kept with it, for those who tell its order.
-    pub keeps_course: bool,
+    /// Whether what tells its order is kept with it.
+    pub keeps_order: bool,
     /// The run of an input that is accepted, if it is kept.
     pub run: Option<Run>,
     /// The texts of this input, if its run is kept.
@@ -67,7 +67,7 @@ pub fn silent_notes() -> Notes<'static, Empty> {
         failed: false,
         stuck: None,
         keeps: false,
-        keeps_course: false,
+        keeps_order: false,
         run: None,
         texts: None,
     }

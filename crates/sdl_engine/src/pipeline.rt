@@ -1,15 +1,15 @@
 //! An input taken, checked and run: from its bytes to the canonical text of its specification, or to a report.
 
-ghost use Rattle.std.specs.Prelude.{◌≡◌, IfOk, IfErr, IfSome, None, false, is_some, length};
+ghost use Rattle.std.specs.Prelude.{◌≡◌, IfOk, IfErr, None, false};
 ghost use Rattle.std.specs.String.{string_bytes};
 ghost use Rattle.sdl_tree.specs.Views.{tree_value};
-ghost use Rattle.settle_run.specs.Course.{HasRows};
 ghost use Rattle.sdl_engine.specs.Answer.{Allows, AllowsOf, IsAccepted, IsRunOf, IsRunOfInput, IsTextRefused, Prints, PrintsInput, workers_by};
+ghost use Rattle.sdl_engine.specs.Kept.{IsLogged};
 
 use crate::options::{Command, Options};
 use crate::refusal::Refusal;
 use crate::run::Run;
-use crate::runner::Runner;
+use crate::runner::{Ran, Runner};
 use sdl_build::build;
 use sdl_input::{Input, Texts};
 use sdl_lex::LexError;
@@ -18,7 +18,6 @@ use sdl_print::print;
 use sdl_script::{Script, read_script};
 use sdl_system::System;
 use sdl_tree::Tree;
-use sdl_workers::Settled;
 use serial_run::Listener;
 use std::alloc::Global;
 
@@ -31,21 +30,19 @@ struct Accepted {
 }
 
 impl Accepted {
-    /// Its run, with workers or without, which was settled so.
-    fn into_run(self, settled: Settled, has_workers: bool) -> Run
+    /// Its run, of which this came.
+    fn into_run(self, ran: Ran) -> Run
         ensures system { result.system ≡ self.system }
-        ensures report { result.report ≡ settled.report }
+        ensures report { result.report ≡ ran.report }
         ensures script { result.script ≡ self.script }
-        ensures has_workers { result.has_workers ≡ has_workers }
-        ensures course { result.course ≡ settled.course }
+        ensures log { result.log ≡ ran.log }
     {
         Run {
             tree: self.tree,
             system: self.system,
             script: self.script,
-            report: settled.report,
-            has_workers,
-            course: settled.course,
+            report: ran.report,
+            log: ran.log,
         }
     }
 }
@@ -99,25 +96,24 @@ fn check_texts(alloc: Global, texts: &Texts) -> Result<String, Refusal>
 }
 
 /// The run of an input, cut after so many transitions, or why there is none. While a serial run goes on, the listener
-/// hears how far it is. A run with workers keeps its course, where that is asked for and there is memory for it.
+/// hears how far it is. What tells the order of the run is kept, if that is asked for and there is memory for it.
 pub fn run_input<E: Runner, L: Listener>(
     runner: &E,
     alloc: Global,
     input: &Input,
     options: &Options,
-    keeps_course: bool,
+    keeps_order: bool,
     listener: L,
 ) -> Result<Run, Refusal>
     ensures ok { IfOk result (λ run. IsRunOfInput input.now (workers_by E.threaded Command.Run options.now.workers)
-        options.now.limit run.system run.report run.script.lines.items) }
-    ensures off { keeps_course ≡ false → IfOk result (λ run. run.course ≡ None) }
-    ensures workers { IfOk result (λ run. run.has_workers
-        ≡ is_some (workers_by E.threaded Command.Run options.now.workers)) }
-    ensures rows { IfOk result (λ run. IfSome run.course (HasRows (length run.report.records.items))) }
+        options.now.limit run.system run.report run.script.lines.items run.log) }
+    ensures off { keeps_order ≡ false → IfOk result (λ run. run.log ≡ None) }
+    ensures log { IfOk result
+        (IsLogged (workers_by E.threaded Command.Run options.now.workers) options.now.limit) }
     ensures err { IfErr result (Allows Command.Run (workers_by E.threaded Command.Run options.now.workers) input.now) }
 {
     match input {
-        Input::Held(texts) => run_texts(runner, alloc, texts, options, keeps_course, listener),
+        Input::Held(texts) => run_texts(runner, alloc, texts, options, keeps_order, listener),
         Input::TooLong => Err(Refusal::Parse(ParseError::Lex(LexError::TooLong))),
     }
 }
@@ -127,15 +123,14 @@ fn run_texts<E: Runner, L: Listener>(
     alloc: Global,
     texts: &Texts,
     options: &Options,
-    keeps_course: bool,
+    keeps_order: bool,
     listener: L,
 ) -> Result<Run, Refusal>
     ensures ok { IfOk result (λ run. IsRunOf texts.now (workers_by E.threaded Command.Run options.now.workers)
-        options.now.limit run.system run.report run.script.lines.items) }
-    ensures off { keeps_course ≡ false → IfOk result (λ run. run.course ≡ None) }
-    ensures workers { IfOk result (λ run. run.has_workers
-        ≡ is_some (workers_by E.threaded Command.Run options.now.workers)) }
-    ensures rows { IfOk result (λ run. IfSome run.course (HasRows (length run.report.records.items))) }
+        options.now.limit run.system run.report run.script.lines.items run.log) }
+    ensures off { keeps_order ≡ false → IfOk result (λ run. run.log ≡ None) }
+    ensures log { IfOk result
+        (IsLogged (workers_by E.threaded Command.Run options.now.workers) options.now.limit) }
     ensures err { IfErr result
         (AllowsOf Command.Run (workers_by E.threaded Command.Run options.now.workers) texts.now) }
 {
@@ -147,13 +142,10 @@ fn run_texts<E: Runner, L: Listener>(
         script,
         options.workers,
         options.limit,
-        keeps_course,
+        keeps_order,
         listener,
     ) {
-        Ok(settled) => {
-            let has_workers = runner.has_workers(options.workers);
-            Ok(accepted.into_run(settled, has_workers))
-        }
+        Ok(ran) => Ok(accepted.into_run(ran)),
         Err(error) => Err(Refusal::Run(error)),
     }
 }

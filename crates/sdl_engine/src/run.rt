@@ -4,11 +4,11 @@ ghost use Rattle.std.specs.Prelude.{◌≡◌};
 ghost use Rattle.std.specs.String.{string_bytes};
 ghost use Rattle.sdl_engine.specs.Views.{has_signal, signals_of};
 
-use run_course::Course;
 use run_record::Report;
 use sdl_script::{Script, ScriptLine};
 use sdl_system::System;
 use sdl_tree::Tree;
+use view_run::OrderLog;
 
 /// A specification, its system, the script, and what the run of them did.
 #[derive(Drop)]
@@ -17,10 +17,8 @@ pub struct Run {
     pub system: System,
     pub script: Script,
     pub report: Report,
-    /// Whether it had workers. Of such a run its course is kept, so that its one order can be told, if that is asked for
-    /// and there was memory for it.
-    pub has_workers: bool,
-    pub course: Option<Course>,
+    /// What was kept so that its order can be told, if that was asked for and there was memory for it.
+    pub log: Option<OrderLog>,
 }
 
 impl Run {

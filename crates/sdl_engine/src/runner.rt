@@ -1,24 +1,32 @@
 //! Who makes the steps of a run, and the text of its report.
 
-ghost use Rattle.std.specs.Prelude.{◌≡◌, All, Bool, IfErr, IfOk, IfSome, List, None, OnErr, OnOk, false, is_some, length};
+ghost use Rattle.std.specs.Prelude.{◌≡◌, All, Bool, IfErr, IfOk, IfSome, List, None, OnErr, OnOk, false};
 ghost use Rattle.std.specs.Io.KnownBytes.{Appends};
 ghost use Rattle.run_semantics.specs.Behaves.{AreBehaviours};
 ghost use Rattle.sdl_engine.specs.Answer.{IsReportBy, workers_by};
+ghost use Rattle.sdl_engine.specs.Log.{IsLogBy};
 ghost use Rattle.sdl_engine.specs.declared.options.Command.TheVariants.{Run};
 ghost use Rattle.sdl_report.specs.Gathered.{BreaksOff};
 ghost use Rattle.sdl_report.specs.ReportText.{report_text};
 ghost use Rattle.sdl_script.specs.Script.{SendsFromEnv};
 ghost use Rattle.sdl_system.specs.Behaviour.{Behaviour};
-ghost use Rattle.settle_run.specs.Course.{HasRows};
 
 use run_record::{Report, RunError};
 use sdl_report::WriteFault;
 use sdl_script::Script;
 use sdl_system::System;
-use sdl_workers::Settled;
 use serial_run::Listener;
 use std::alloc::Global;
 use std::io::Write;
+use view_run::OrderLog;
+
+/// What comes of a run.
+#[derive(Drop)]
+pub struct Ran {
+    pub report: Report,
+    /// What was kept so that its order can be told.
+    pub log: Option<OrderLog>,
+}
 
 /// Who makes the steps of a run, and the text of its report: the thread that calls, and workers, if there are threads
 /// for them and some are asked for.
@@ -27,7 +35,7 @@ pub trait Runner {
     ghost threaded: { Bool };
 
     /// Runs a system on a script, cut after so many transitions. While a serial run goes on, the listener hears how far
-    /// it is. A run with workers keeps its course beside the report, where that is asked for and there is memory for it.
+    /// it is. What tells the order of the run is kept beside the report, if that is asked for and there is memory for it.
     /// That the script is one for the system is the caller's condition.
     fn run<L: Listener>(
         &self,
@@ -36,21 +44,18 @@ pub trait Runner {
         script: &Script,
         workers: Option<u8>,
         limit: u64,
-        keeps_course: bool,
+        keeps_order: bool,
         listener: L,
-    ) -> Result<Settled, RunError>
+    ) -> Result<Ran, RunError>
         requires { All (SendsFromEnv system.now) script.now.lines.items }
-        ensures report { IfOk result (λ settled. (ps : List Behaviour) → AreBehaviours system.now ps
+        ensures report { IfOk result (λ ran. (ps : List Behaviour) → AreBehaviours system.now ps
             → IsReportBy (workers_by Self.threaded Run workers) ps system.now script.now.lines.items limit
-            settled.report) }
-        ensures off { keeps_course ≡ false → IfOk result (λ settled. settled.course ≡ None) }
-        ensures rows { IfOk result (λ settled.
-            IfSome settled.course (HasRows (length settled.report.records.items))) }
+            ran.report) }
+        ensures log { IfOk result (λ ran. (ps : List Behaviour) → AreBehaviours system.now ps
+            → IfSome ran.log (IsLogBy (workers_by Self.threaded Run workers) ps system.now script.now.lines.items limit
+            ran.report)) }
+        ensures off { keeps_order ≡ false → IfOk result (λ ran. ran.log ≡ None) }
         ensures err { workers_by Self.threaded Run workers ≡ None → IfErr result (λ why. why ≡ RunError.Memory) };
-
-    /// Whether a run has workers for which so many are asked: without threads it has none.
-    fn has_workers(&self, workers: Option<u8>) -> bool
-        ensures { result ≡ is_some (workers_by Self.threaded Run workers) };
 
     /// Writes a report. So many workers make its text, if there are threads for them.
     fn write_report<W: Write>(

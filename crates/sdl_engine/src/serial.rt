@@ -1,14 +1,17 @@
 //! A run on the thread that calls. No call here waits, so each returns.
 
-use crate::runner::Runner;
+ghost use Rattle.sdl_engine.specs.Log.{IsLogOf};
+
+use crate::runner::{Ran, Runner};
+use run_course::KeptWords;
 use run_record::{Report, RunError};
 use sdl_report::{WriteFault, write_report};
 use sdl_script::Script;
 use sdl_system::System;
-use sdl_workers::Settled;
-use serial_run::{Listener, run_serial_heard};
+use serial_run::{Listener, SerialRun, run_serial_heard, run_serial_noted};
 use std::alloc::Global;
 use std::io::Write;
+use view_run::OrderLog;
 
 /// The thread that calls, and no other.
 #[derive(Drop)]
@@ -26,18 +29,20 @@ impl Runner for Serial {
         script: &Script,
         _workers: Option<u8>,
         limit: u64,
-        _keeps_course: bool,
+        keeps_order: bool,
         listener: L,
-    ) -> Result<Settled, RunError> {
-        let report = run_serial_heard(alloc, system, script, limit, listener)?;
-        Ok(Settled {
+    ) -> Result<Ran, RunError> {
+        if !keeps_order {
+            let report = run_serial_heard(alloc, system, script, limit, listener)?;
+            return Ok(Ran { report, log: None });
+        }
+        let SerialRun { report, order } = run_serial_noted(
+            alloc, system, script, limit, listener, true,
+        )?;
+        Ok(Ran {
             report,
-            course: None,
+            log: log_of(order),
         })
-    }
-
-    fn has_workers(&self, _workers: Option<u8>) -> bool {
-        false
     }
 
     fn write_report<W: Write>(
@@ -50,4 +55,11 @@ impl Runner for Serial {
     ) -> Result<(), WriteFault> {
         write_report(alloc, report, system, writer)
     }
+}
+
+/// What is kept for the order of a serial run: whose events it told, unless there was no memory for that.
+fn log_of(order: KeptWords) -> Option<OrderLog>
+    ensures { IsLogOf order result }
+{
+    order.into_list().map(OrderLog::Tellers)
 }

@@ -1,11 +1,10 @@
 //! The whole program over any reader and writer.
 
-ghost use Rattle.std.specs.Prelude.{◌≡◌, ◌≢◌, Bool, IfOk, IfErr, IfSome, None, false, length, option_map};
+ghost use Rattle.std.specs.Prelude.{◌≡◌, ◌≢◌, Bool, IfOk, IfErr, IfSome, None, false, option_map};
 ghost use Rattle.std.specs.Io.KnownBytes.{Keeps};
 ghost use Rattle.failure_replay.specs.Ending.{has_failed};
-ghost use Rattle.sdl_engine.specs.Answer.{Faulted, Fails, Tells, TellsNoOrder, Written, carried};
-ghost use Rattle.sdl_engine.specs.Kept.{IsKept, KeepsRun, KnowsFailed, SaysFailed, TellsNone};
-ghost use Rattle.settle_run.specs.Course.{HasRows};
+ghost use Rattle.sdl_engine.specs.Answer.{Faulted, Fails, Tells, TellsNoOrder, Written, carried, workers_by};
+ghost use Rattle.sdl_engine.specs.Kept.{IsKept, IsLogged, KeepsRun, KnowsFailed, SaysFailed, TellsNone};
 
 use crate::answer::{canonical, refuse, report};
 use crate::notes::{Notes, keep_run, keep_texts, note_failures, note_refusal, silent_notes};
@@ -42,8 +41,8 @@ pub fn run_text<E: Runner, R: Read, W: Write>(
 /// Does what `run_text` does for the text of a source and its script, and then tells a human more in the notes: why the
 /// text is refused, if that is asked for; what cut the run; each failure of an instance, if that is asked for; and from
 /// which instance on the order of the run isn't known. The notes keep the run that was told with its texts, if that is
-/// asked for, and nothing else. The run has no course where nobody asks for it and no order is told. A fault of writing
-/// the notes changes nothing. While a serial run goes on, the listener hears how far it is.
+/// asked for, and nothing else. Nothing is kept for the order of the run if nobody asks for that and no order is told. A
+/// fault of writing the notes changes nothing. While a serial run goes on, the listener hears how far it is.
 pub fn run_and_note<E: Runner, R: Read, S: Read, W: Write, N: Write, L: Listener>(
     runner: &E,
     alloc: Global,
@@ -68,10 +67,10 @@ pub fn run_and_note<E: Runner, R: Read, S: Read, W: Write, N: Write, L: Listener
         (option_map S.remaining source.old.script) (carried E.threaded options.now) how notes.new.run notes.new.texts
         notes.new.stuck (W.contents writer.old) (W.contents writer.new)) }
     ensures failed { IfSome notes.new.run (λ run. notes.new.failed ≡ has_failed run.report.records.items) }
-    ensures no_course { notes.old.keeps_course ≡ false → TellsNoOrder options.now →
-        IfSome notes.new.run (λ run. run.course ≡ None) }
-    ensures course { IfSome notes.new.run (λ run.
-        IfSome run.course (HasRows (length run.report.records.items))) }
+    ensures no_log { notes.old.keeps_order ≡ false → TellsNoOrder options.now →
+        IfSome notes.new.run (λ run. run.log ≡ None) }
+    ensures log { IfSome notes.new.run
+        (IsLogged (workers_by E.threaded Command.Run options.now.workers) options.now.limit) }
     ensures told_failed { IfOk result (λ how. KnowsFailed (R.remaining source.old.text)
         (option_map S.remaining source.old.script) (carried E.threaded options.now) how notes.new.stuck notes.new.failed
         (W.contents writer.old) (W.contents writer.new)) }
@@ -107,10 +106,10 @@ fn tell<E: Runner, W: Write, N: Write, L: Listener>(
         (W.contents writer.old) (W.contents writer.new)) }
     ensures failed { notes.old.run ≡ None →
         IfSome notes.new.run (λ run. notes.new.failed ≡ has_failed run.report.records.items) }
-    ensures no_course { notes.old.run ≡ None → notes.old.keeps_course ≡ false → TellsNoOrder options.now →
-        IfSome notes.new.run (λ run. run.course ≡ None) }
-    ensures course { notes.old.run ≡ None →
-        IfSome notes.new.run (λ run. IfSome run.course (HasRows (length run.report.records.items))) }
+    ensures no_log { notes.old.run ≡ None → notes.old.keeps_order ≡ false → TellsNoOrder options.now →
+        IfSome notes.new.run (λ run. run.log ≡ None) }
+    ensures log { notes.old.run ≡ None → IfSome notes.new.run
+        (IsLogged (workers_by E.threaded Command.Run options.now.workers) options.now.limit) }
     ensures told_failed { notes.old.failed ≡ false → IfOk result (λ how. SaysFailed input.now
         (carried E.threaded options.now) how notes.new.stuck notes.new.failed
         (W.contents writer.old) (W.contents writer.new)) }
@@ -162,18 +161,18 @@ fn tell_run<E: Runner, W: Write, N: Write, L: Listener>(
         (W.contents writer.old) (W.contents writer.new)) }
     ensures failed { notes.old.run ≡ None →
         IfSome notes.new.run (λ run. notes.new.failed ≡ has_failed run.report.records.items) }
-    ensures no_course { notes.old.run ≡ None → notes.old.keeps_course ≡ false → TellsNoOrder options.now →
-        IfSome notes.new.run (λ run. run.course ≡ None) }
-    ensures course { notes.old.run ≡ None →
-        IfSome notes.new.run (λ run. IfSome run.course (HasRows (length run.report.records.items))) }
+    ensures no_log { notes.old.run ≡ None → notes.old.keeps_order ≡ false → TellsNoOrder options.now →
+        IfSome notes.new.run (λ run. run.log ≡ None) }
+    ensures log { notes.old.run ≡ None → IfSome notes.new.run
+        (IsLogged (workers_by E.threaded Command.Run options.now.workers) options.now.limit) }
     ensures told_failed { notes.old.failed ≡ false → IfOk result (λ how. SaysFailed input.now
         (carried E.threaded options.now) how notes.new.stuck notes.new.failed
         (W.contents writer.old) (W.contents writer.new)) }
 {
     let keeps = notes.keeps;
     let tells = notes.failures;
-    let keeps_course = may_tell_order(options.view, notes.keeps_course);
-    match run_input(runner, alloc, input, options, keeps_course, listener) {
+    let keeps_order = may_tell_order(options.view, notes.keeps_order);
+    match run_input(runner, alloc, input, options, keeps_order, listener) {
         Ok(run) => {
             let told = report(runner, alloc, &run, writer, notes, options);
             note_failures(alloc, input, &run, tells, notes);
@@ -184,12 +183,12 @@ fn tell_run<E: Runner, W: Write, N: Write, L: Listener>(
     }
 }
 
-/// Whether an order may be told of a run: where its view has one, and where its course is kept for others.
-fn may_tell_order(view: View, keeps_course: bool) -> bool
-    ensures { view ≡ View.Trace → result ≡ keeps_course }
+/// Whether an order may be told of a run: its view has one, or what tells it is kept for others.
+fn may_tell_order(view: View, keeps_order: bool) -> bool
+    ensures { view ≡ View.Trace → result ≡ keeps_order }
 {
     match view {
-        View::Trace => keeps_course,
+        View::Trace => keeps_order,
         View::Lines | View::Json => true,
     }
 }

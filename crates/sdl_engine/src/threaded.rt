@@ -1,17 +1,17 @@
 //! A run with threads for workers. Its calls may wait for them.
 
-ghost use Rattle.std.specs.Prelude.{◌≡◌, All, IfOk, IfSome, None, false, length};
+ghost use Rattle.std.specs.Prelude.{◌≡◌, All, IfOk, IfSome, None, false};
+ghost use Rattle.sdl_engine.specs.Log.{IsCourseOf};
 ghost use Rattle.sdl_script.specs.Script.{SendsFromEnv};
 ghost use Rattle.settle_meaning.specs.Settled.{IsSettledReport};
-ghost use Rattle.settle_run.specs.Course.{HasRows};
 
-use crate::runner::Runner;
+use crate::runner::{Ran, Runner};
 use crate::serial::Serial;
 use run_record::{Report, RunError};
 use sdl_report::WriteFault;
 use sdl_script::Script;
 use sdl_system::System;
-use sdl_workers::{Open, Settled, run, run_with_course};
+use sdl_workers::{Open, run, run_with_course};
 use serial_run::Listener;
 use std::alloc::Global;
 use std::io::Write;
@@ -19,6 +19,7 @@ use std::marker::PhantomData;
 use std::sync::Wait;
 use std::thread::Threads;
 use threads_report::write_report_by_workers;
+use view_run::OrderLog;
 
 /// The leave to start threads and to wait for them, of a type that has it. It is for the workers, too: unlike a `T`, it
 /// holds nothing of which a proof would have to know that it may go to another thread.
@@ -58,11 +59,11 @@ impl<T: Threads + Wait + Sync> Runner for Threaded<T> {
         script: &Script,
         workers: Option<u8>,
         limit: u64,
-        keeps_course: bool,
+        keeps_order: bool,
         listener: L,
-    ) -> Result<Settled, RunError> {
+    ) -> Result<Ran, RunError> {
         match workers {
-            None => Serial.run(alloc, system, script, None, limit, keeps_course, listener),
+            None => Serial.run(alloc, system, script, None, limit, keeps_order, listener),
             Some(count) => run_by(
                 &&self.leave,
                 alloc,
@@ -70,13 +71,9 @@ impl<T: Threads + Wait + Sync> Runner for Threaded<T> {
                 script,
                 count,
                 limit,
-                keeps_course,
+                keeps_order,
             ),
         }
-    }
-
-    fn has_workers(&self, workers: Option<u8>) -> bool {
-        workers.is_some()
     }
 
     fn write_report<W: Write>(
@@ -97,7 +94,7 @@ impl<T: Threads + Wait + Sync> Runner for Threaded<T> {
     }
 }
 
-/// A run by so many workers, with its course where that is asked for. That the script is one for the system is the
+/// A run by so many workers, with its course if its order is asked for. That the script is one for the system is the
 /// caller's condition.
 fn run_by<R: Threads + Wait + Copy + Send + Sync>(
     rt: &R,
@@ -106,22 +103,21 @@ fn run_by<R: Threads + Wait + Copy + Send + Sync>(
     script: &Script,
     workers: u8,
     limit: u64,
-    keeps_course: bool,
-) -> Result<Settled, RunError>
+    keeps_order: bool,
+) -> Result<Ran, RunError>
     requires { All (SendsFromEnv system.now) script.now.lines.items }
-    ensures settled { IfOk result (λ settled.
-        IsSettledReport system.now script.now.lines.items limit settled.report) }
-    ensures off { keeps_course ≡ false → IfOk result (λ settled. settled.course ≡ None) }
-    ensures rows { IfOk result (λ settled.
-        IfSome settled.course (HasRows (length settled.report.records.items))) }
+    ensures settled { IfOk result (λ ran. IsSettledReport system.now script.now.lines.items limit ran.report) }
+    ensures off { keeps_order ≡ false → IfOk result (λ ran. ran.log ≡ None) }
+    ensures log { IfOk result (λ ran. IfSome ran.log (IsCourseOf ran.report)) }
 {
     let count = usize::from(workers);
-    if keeps_course {
-        return run_with_course(rt, alloc, system, script, count, limit, &Open);
+    if !keeps_order {
+        let report = run(rt, alloc, system, script, count, limit, &Open)?;
+        return Ok(Ran { report, log: None });
     }
-    let report = run(rt, alloc, system, script, count, limit, &Open)?;
-    Ok(Settled {
-        report,
-        course: None,
+    let settled = run_with_course(rt, alloc, system, script, count, limit, &Open)?;
+    Ok(Ran {
+        report: settled.report,
+        log: settled.course.map(OrderLog::Course),
     })
 }

@@ -22,9 +22,9 @@ pub fn write_view<E: Runner, W: Write>(
     workers: Option<u8>,
     writer: &mut W,
 ) -> Result<Option<u32>, TextFault>
-    ensures ok { IfOk result (λ stuck. TellsRun view run.now.has_workers run.now.system run.now.report
+    ensures ok { IfOk result (λ stuck. TellsRun view run.now.log run.now.system run.now.report
         run.now.script.lines.items stuck (W.contents writer.old) (W.contents writer.new)) }
-    ensures err { IfErr result (λ fault. FailsToTellRun fault view run.now.has_workers run.now.system run.now.report
+    ensures err { IfErr result (λ fault. FailsToTellRun fault view run.now.log run.now.system run.now.report
         run.now.script.lines.items (W.contents writer.old) (W.contents writer.new)) }
     ensures trace { view ≡ View.Trace → IfOk result (λ stuck. stuck ≡ None) }
 {
@@ -43,9 +43,9 @@ fn write_trace<E: Runner, W: Write>(
     workers: Option<u8>,
     writer: &mut W,
 ) -> Result<Option<u32>, TextFault>
-    ensures ok { IfOk result (λ stuck. TellsRun View.Trace run.now.has_workers run.now.system run.now.report
+    ensures ok { IfOk result (λ stuck. TellsRun View.Trace run.now.log run.now.system run.now.report
         run.now.script.lines.items stuck (W.contents writer.old) (W.contents writer.new)) }
-    ensures err { IfErr result (λ fault. FailsToTellRun fault View.Trace run.now.has_workers run.now.system
+    ensures err { IfErr result (λ fault. FailsToTellRun fault View.Trace run.now.log run.now.system
         run.now.report run.now.script.lines.items (W.contents writer.old) (W.contents writer.new)) }
     ensures trace { IfOk result (λ stuck. stuck ≡ None) }
 {
@@ -59,9 +59,9 @@ fn write_in_lines<W: Write>(
     run: &Run,
     writer: &mut W,
 ) -> Result<Option<u32>, TextFault>
-    ensures ok { IfOk result (λ stuck. TellsRun View.Lines run.now.has_workers run.now.system run.now.report
+    ensures ok { IfOk result (λ stuck. TellsRun View.Lines run.now.log run.now.system run.now.report
         run.now.script.lines.items stuck (W.contents writer.old) (W.contents writer.new)) }
-    ensures err { IfErr result (λ fault. FailsToTellRun fault View.Lines run.now.has_workers run.now.system
+    ensures err { IfErr result (λ fault. FailsToTellRun fault View.Lines run.now.log run.now.system
         run.now.report run.now.script.lines.items (W.contents writer.old) (W.contents writer.new)) }
 {
     let order = order_of(alloc, run)?;
@@ -85,9 +85,9 @@ fn write_in_json<W: Write>(
     run: &Run,
     writer: &mut W,
 ) -> Result<Option<u32>, TextFault>
-    ensures ok { IfOk result (λ stuck. TellsRun View.Json run.now.has_workers run.now.system run.now.report
+    ensures ok { IfOk result (λ stuck. TellsRun View.Json run.now.log run.now.system run.now.report
         run.now.script.lines.items stuck (W.contents writer.old) (W.contents writer.new)) }
-    ensures err { IfErr result (λ fault. FailsToTellRun fault View.Json run.now.has_workers run.now.system
+    ensures err { IfErr result (λ fault. FailsToTellRun fault View.Json run.now.log run.now.system
         run.now.report run.now.script.lines.items (W.contents writer.old) (W.contents writer.new)) }
 {
     let order = order_of(alloc, run)?;

@@ -10,12 +10,14 @@ pub returns-in-Ok-clause-ok : goal.returns-in-Ok-clause-ok
 returns-in-Ok-clause-ok g c =
     let taken = c.in_ok-accepted.accepted in
     let accepted = c.in_ok-accepted.ensures.ok in
-    rw (c.into_run.ensures.system, c.into_run.ensures.report, c.into_run.ensures.script) (record {
+    rw (c.into_run.ensures.system, c.into_run.ensures.report, c.into_run.ensures.script, c.into_run.ensures.log) (record {
       tree = tree_value taken.tree;
       accepted = accepted;
       behaves = some_behaviours (tree_value taken.tree) taken.system accepted.built;
       ran = λ ps of.
           c.in-Ok.ensures.report ps (behaviours_of_text (tree_value taken.tree) taken.system accepted.built ps of);
+      kept = λ ps of.
+          c.in-Ok.ensures.log ps (behaviours_of_text (tree_value taken.tree) taken.system accepted.built ps of);
     })
 
 pub returns-in-Err-clause-err : goal.returns-in-Err-clause-err
@@ -30,7 +32,9 @@ returns-in-Err-clause-err g c =
     })
 
 pub returns-in-Ok-clause-off : goal.returns-in-Ok-clause-off
-returns-in-Ok-clause-off g c = λ none. c.into_run.ensures.course ∙ c.in-Ok.ensures.off none
+returns-in-Ok-clause-off g c = λ none. c.into_run.ensures.log ∙ c.in-Ok.ensures.off none
 
-pub returns-in-Ok-clause-rows : goal.returns-in-Ok-clause-rows
-returns-in-Ok-clause-rows g c = rw (c.into_run.ensures.course, c.into_run.ensures.report) c.in-Ok.ensures.rows
+pub returns-in-Ok-clause-log : goal.returns-in-Ok-clause-log
+returns-in-Ok-clause-log g c =
+    rw (c.into_run.ensures.system, c.into_run.ensures.report, c.into_run.ensures.script, c.into_run.ensures.log)
+    c.in-Ok.ensures.log

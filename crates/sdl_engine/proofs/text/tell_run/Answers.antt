@@ -1,7 +1,7 @@
-use Rattle.std.proofs.Common.{◌≡◌, ◌∙◌, ap, arith, length, IfSome, None}
+use Rattle.std.proofs.Common.{◌≡◌, ◌∙◌, ap, arith, None}
 use Rattle.std.proofs.KnownBytes.{Keeps-trans}
-use Rattle.settle_run.specs.Course.{HasRows}
 use Rattle.sdl_engine.specs.Answer.{carried, workers_by}
+use Rattle.sdl_engine.specs.Kept.{IsLogged}
 use Rattle.sdl_engine.specs.declared.options.Command.TheVariants as command
 use Rattle.sdl_engine.proofs.FailedLaws.{refused_failed, run_failed, tells_kept, tells_none}
 use Rattle.sdl_engine.specs.declared.run.Run.{Run}
@@ -15,8 +15,8 @@ returns-in-Ok-clause-ok g c =
     let threaded = g.E.Runner.threaded in
     let options = c.args.options.now in
     run_tells c.args.input.now (carried threaded options) (workers_by threaded command.Run options.workers)
-    run.has_workers run.system run.report run.script.lines.items _ _ _ c.report-told.result c.requires
-    (ap (λ how. workers_by threaded how options.workers) c.requires) c.in-Ok.ensures.workers c.in-Ok.ensures.ok
+    run.system run.report run.script.lines.items run.log _ _ _ c.report-told.result c.requires
+    (ap (λ how. workers_by threaded how options.workers) c.requires) c.in-Ok.ensures.ok
     c.report-told.ensures.how c.report-told.ensures.ok
 
 pub returns-in-Ok-clause-err : goal.returns-in-Ok-clause-err
@@ -25,8 +25,8 @@ returns-in-Ok-clause-err g c =
     let threaded = g.E.Runner.threaded in
     let options = c.args.options.now in
     run_fails c.args.input.now (carried threaded options) (workers_by threaded command.Run options.workers)
-    run.has_workers run.system run.report run.script.lines.items _ _ c.report-told.result c.requires
-    (ap (λ how. workers_by threaded how options.workers) c.requires) c.in-Ok.ensures.workers c.in-Ok.ensures.ok
+    run.system run.report run.script.lines.items run.log _ _ c.report-told.result c.requires
+    (ap (λ how. workers_by threaded how options.workers) c.requires) c.in-Ok.ensures.ok
     c.report-told.ensures.err
 
 pub returns-in-Ok-clause-quiet : goal.returns-in-Ok-clause-quiet
@@ -44,7 +44,7 @@ returns-in-Ok-clause-kept g c = λ start.
     run_kept c.args.notes.now.keeps c.args.input.now (carried threaded options)
     (workers_by threaded command.Run options.workers) c.in-Ok.run' notes.run c.report-told.new.notes.stuck
     notes.stuck _ _ c.report-told.result c.requires (ap (λ how. workers_by threaded how options.workers) c.requires)
-    c.in-Ok.ensures.workers c.in-Ok.ensures.ok c.report-told.ensures.how c.report-told.ensures.ok
+    c.in-Ok.ensures.ok c.report-told.ensures.how c.report-told.ensures.ok
     (grind (arith, c.note_failures.ensures.rest, c.keep_run.ensures.rest))
     (λ asked. grind (arith, c.keep_run.ensures.kept asked)) (λ other. grind (arith, c.keep_run.ensures.asked other))
 
@@ -81,7 +81,7 @@ returns-in-Ok-clause-told_failed g c = λ start.
     let options = c.args.options.now in
     run_failed c.args.input.now (carried threaded options) (workers_by threaded command.Run options.workers)
     c.in-Ok.run' c.report-told.new.notes.stuck notes.stuck notes.failed _ _ c.report-told.result c.requires
-    (ap (λ how. workers_by threaded how options.workers) c.requires) c.in-Ok.ensures.workers c.in-Ok.ensures.ok
+    (ap (λ how. workers_by threaded how options.workers) c.requires) c.in-Ok.ensures.ok
     c.report-told.ensures.how c.report-told.ensures.ok
     (grind (arith, c.note_failures.ensures.rest, c.keep_run.ensures.rest))
     (grind (arith, c.note_failures.ensures.failed, c.keep_run.ensures.rest))
@@ -91,21 +91,22 @@ returns-in-Err-clause-told_failed g c = λ start.
     refused_failed c.args.input.now (carried g.E.Runner.threaded c.args.options.now) c.in-Err.refusal _ _ _ _
     c.refuse.result c.refuse.ensures.how start
 
-pub returns-in-Ok-clause-no_course : goal.returns-in-Ok-clause-no_course
-returns-in-Ok-clause-no_course g c = λ start off order.
-    if_kept (λ (run : Run). run.course ≡ None) c.args.notes.now.keeps c.in-Ok.run' _
-    (c.in-Ok.ensures.off (c.may_tell_order-keeps_course.ensures (order c.requires) ∙ off))
+pub returns-in-Ok-clause-no_log : goal.returns-in-Ok-clause-no_log
+returns-in-Ok-clause-no_log g c = λ start off order.
+    if_kept (λ (run : Run). run.log ≡ None) c.args.notes.now.keeps c.in-Ok.run' _
+    (c.in-Ok.ensures.off (c.may_tell_order-keeps_order.ensures (order c.requires) ∙ off))
     (λ asked. grind (arith, c.keep_run.ensures.kept asked)) (λ other. grind (arith, c.keep_run.ensures.asked other))
 
-pub returns-in-Err-clause-no_course : goal.returns-in-Err-clause-no_course
-returns-in-Err-clause-no_course g c = λ start off order. if_none (λ (run : Run). run.course ≡ None) _ start
+pub returns-in-Err-clause-no_log : goal.returns-in-Err-clause-no_log
+returns-in-Err-clause-no_log g c = λ start off order. if_none (λ (run : Run). run.log ≡ None) _ start
 
-pub returns-in-Ok-clause-course : goal.returns-in-Ok-clause-course
-returns-in-Ok-clause-course g c = λ start.
-    if_kept (λ (run : Run). IfSome run.course (HasRows (length run.report.records.items))) c.args.notes.now.keeps
-    c.in-Ok.run' _ c.in-Ok.ensures.rows (λ asked. grind (arith, c.keep_run.ensures.kept asked))
+pub returns-in-Ok-clause-log : goal.returns-in-Ok-clause-log
+returns-in-Ok-clause-log g c = λ start.
+    if_kept (IsLogged (workers_by g.E.Runner.threaded command.Run c.args.options.now.workers) c.args.options.now.limit)
+    c.args.notes.now.keeps c.in-Ok.run' _ c.in-Ok.ensures.log (λ asked. grind (arith, c.keep_run.ensures.kept asked))
     (λ other. grind (arith, c.keep_run.ensures.asked other))
 
-pub returns-in-Err-clause-course : goal.returns-in-Err-clause-course
-returns-in-Err-clause-course g c = λ start.
-    if_none (λ (run : Run). IfSome run.course (HasRows (length run.report.records.items))) _ start
+pub returns-in-Err-clause-log : goal.returns-in-Err-clause-log
+returns-in-Err-clause-log g c = λ start.
+    if_none (IsLogged (workers_by g.E.Runner.threaded command.Run c.args.options.now.workers) c.args.options.now.limit)
+    _ start

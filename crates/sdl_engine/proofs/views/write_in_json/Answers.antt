@@ -12,7 +12,7 @@ returns-in_err-write_json-clause-err g c =
     let run = c.args.run.now in
     let order = c.in_ok-order.order in
     let text_of = json_text run.system run.report order.told order.stuck in
-    rw (p.1, p.2) (view_fails _ views.Json run.has_workers run.system run.report run.script.lines.items order.stuck
+    rw (p.1, p.2) (view_fails _ views.Json run.log run.system run.report run.script.lines.items order.stuck
     (text_of (map sending_value c.deref.result.now)) _ _
     (record {
       told = order.told;

@@ -15,7 +15,7 @@ returns-in_err-write_lines-clause-err g c =
     let text_of = lines_text run.system run.report order.told order.stuck in
     let sent = signals_of run.script.lines.items in
     let lost = map sending_value c.deref.result.now in
-    rw (p.1, p.2) (view_fails _ views.Lines run.has_workers run.system run.report run.script.lines.items order.stuck
+    rw (p.1, p.2) (view_fails _ views.Lines run.log run.system run.report run.script.lines.items order.stuck
     (text_of c.signals_of.result lost) _ _
     (record {
       told = order.told;
