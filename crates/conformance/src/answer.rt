@@ -72,7 +72,7 @@ pub fn silent_notes(alloc: Global) -> Notes<'static, Vec<u8>> {
         failed: false,
         stuck: None,
         keeps: false,
-        keeps_course: false,
+        keeps_order: false,
         run: None,
         texts: None,
     }

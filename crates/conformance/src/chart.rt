@@ -24,7 +24,7 @@ pub fn chart_of<T: Threads + Wait + Copy + Send + Sync>(
 {
     let mut notes = silent_notes(alloc);
     notes.keeps = true;
-    notes.keeps_course = true;
+    notes.keeps_order = true;
     let told = noted_answer(rt, alloc, input, &mut notes, options);
     let output = drawn(alloc, &notes.run, form)?;
     Ok(Answer {

@@ -1,6 +1,7 @@
 -- What the calls of a drawing give, put together into what is said of it.
 use Rattle.std.proofs.Common.{◌≡◌, ◌≢◌, ℕ, List, Option, None, ap, inr, refl}
 use Rattle.sdl_engine.specs.Answer.{fault_of}
+use Rattle.sdl_engine.specs.Views.{IsOrderOf}
 use Rattle.sdl_engine.specs.declared.run.Run.{Run}
 use Rattle.sdl_report.specs.Gathered.{BreaksOff}
 use Rattle.sdl_report.specs.declared.write_whole.WriteFault.{WriteFault}
@@ -9,7 +10,7 @@ use Rattle.std.specs.Io.KnownBytes.{Appends}
 use Rattle.std.specs.String.{string_bytes}
 use Rattle.view_msc.specs.MscText.{msc_text}
 use Rattle.view_picture.specs.Written.{IsBrokenOff, IsWritten}
-use Rattle.view_run.specs.Order.{IsOrderBy, lost_to}
+use Rattle.view_run.specs.Order.{lost_to}
 use Rattle.view_steps.specs.Sending.{SendingValue}
 use Rattle.view_timeline.specs.declared.moves.Timeline.{Timeline}
 use Rattle.sdl_views.specs.Drawn.{FailsToDraw, IsBegun, IsChart, IsDrawn}
@@ -55,7 +56,7 @@ text_of run stuck told lost = msc_text (string_bytes run.tree.name.text) run.sys
 
 -- the order of the run
 abbrev pub IsTold : Run → Option ℕ → Timeline → Type 0
-IsTold run stuck told = IsOrderBy run.has_workers stuck run.system run.script.lines.items run.report told
+IsTold run stuck told = IsOrderOf run.log stuck run.system run.script.lines.items run.report told
 
 -- the signals of the script that nobody took
 abbrev pub AreLost : Run → Option ℕ → Timeline → List SendingValue → Type 0

@@ -15,7 +15,7 @@ use Rattle.sdl_views.specs.declared.form.Form.TheVariants as forms
 -- A text of Z.120 is that of a timeline of the run, by the name of its system, up to the instance that can't go on, if one
 -- can't. Of a picture nothing is said.
 abbrev pub IsChart : Form → Run → Option ℕ → List ℕ → Type 0
-IsChart forms.Msc run stuck text = IsInOrder run.has_workers run.system run.script.lines.items run.report
+IsChart forms.Msc run stuck text = IsInOrder run.log run.system run.script.lines.items run.report
     (λ told. msc_text (string_bytes run.tree.name.text) run.system told stuck
     (lost_to stuck run.system run.report told run.script.lines.items) run.report) stuck text
 IsChart other run stuck text = Unit {0}

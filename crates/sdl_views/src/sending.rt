@@ -40,7 +40,7 @@ fn sent_singly(alloc: Global, run: &Run) -> Result<Sent, TextFault>
     }
 }
 
-/// What is sent, in an order of the run.
+/// What is sent, in the order of the run.
 fn sent_in_order(alloc: Global, run: &Run) -> Result<Sent, TextFault>
     ensures ok { IfOk result (λ sent. SaysSent false run.now sent.stuck (string_bytes sent.text)) }
     ensures err { IfErr result (λ fault. fault ≡ TextFault.Memory) }

@@ -9,7 +9,7 @@ use crate::message::Message;
 use crate::opened::{Kept, Opened, open_source};
 use crate::progress::Progress;
 use crate::warned::warn;
-use sdl_command_line::{InputFile, Task};
+use sdl_command_line::{InputFile, Part, Task};
 use sdl_engine::{
     Names, Nobody, Notes, Options, Outcome, Serial, Source, TextFault, Threaded, View, run_and_note,
 };
@@ -73,7 +73,7 @@ fn notes_of<'t>(rt: &HostRuntime, task: &'t Task) -> Notes<'t, Message> {
         failed: false,
         stuck: None,
         keeps: keeps_run(task),
-        keeps_course: task.chart.is_some(),
+        keeps_order: keeps_order(task),
         run: None,
         texts: None,
     }
@@ -82,6 +82,21 @@ fn notes_of<'t>(rt: &HostRuntime, task: &'t Task) -> Notes<'t, Message> {
 /// Whether the run is kept for those who draw it, tell what it covered, or compare it.
 fn keeps_run(task: &Task) -> bool {
     task.chart.is_some() || task.coverage.is_some() || task.expectation.is_some()
+}
+
+/// Whether what tells the order of the run is kept with it: for its chart, and where what it sent is compared in that
+/// order.
+fn keeps_order(task: &Task) -> bool {
+    task.chart.is_some() || compares_in_order(task)
+}
+
+/// Whether what a run sends to the environment is compared in its order: with workers that of each instance is compared
+/// by itself.
+fn compares_in_order(task: &Task) -> bool {
+    match &task.expectation {
+        Some(expectation) => expectation.part == Part::Outputs && task.options.workers.is_none(),
+        None => false,
+    }
 }
 
 /// Writes what is asked for of the text. If nothing is to be written of a text that is accepted, or what is written is
