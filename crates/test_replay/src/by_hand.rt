@@ -8,7 +8,7 @@ use port_values::{Pid, SignalId};
 use run_record::Failure;
 use sdl_system::{Dest, ProcessId};
 use std::alloc::{AllocError, Global};
-use view_timeline::{Untold, timeline};
+use view_timeline::{Untold, timeline_in};
 
 const P: ProcessId = ProcessId(0);
 
@@ -85,9 +85,10 @@ fn a_step_comes_between_two_outputs(rt: HostRuntime) {
     expect_order(&rt, alloc, BETWEEN, "", &run, &order, None);
     let wrong = between(alloc, 2).expect(&rt, "a run");
     expect_order(&rt, alloc, BETWEEN, "", &wrong, &[1, 1, 2, 2, 2], Some(1));
-    match timeline(alloc, &run.report) {
+    assert!(rt; timeline_in(alloc, &run.report, &order).is_ok());
+    match timeline_in(alloc, &run.report, &[1, 1, 1, 1]) {
         Err(Untold::Stuck { number, .. }) => assert!(rt; number == 1),
-        _ => assert!(rt; false, "an order of whole transitions"),
+        _ => assert!(rt; false, "a whole transition of #1"),
     }
 }
 

@@ -46,7 +46,7 @@ fn notes(alloc: Global, text: &str, keeps: bool) -> Notes<'static, Vec<u8>> {
         failed: false,
         stuck: None,
         keeps,
-        keeps_course: true,
+        keeps_order: true,
         run: None,
         texts: None,
     };

@@ -158,7 +158,7 @@ fn notes(alloc: Global, keeps: bool) -> Notes<'static, Vec<u8>> {
         failed: false,
         stuck: None,
         keeps,
-        keeps_course: false,
+        keeps_order: false,
         run: None,
         texts: None,
     }
@@ -166,19 +166,23 @@ fn notes(alloc: Global, keeps: bool) -> Notes<'static, Vec<u8>> {
 
 /// The notes of a text that is told so.
 fn told(alloc: Global, text: &str, keeps: bool, options: &Options) -> Notes<'static, Vec<u8>> {
-    let mut source = source(text);
     let mut notes = notes(alloc, keeps);
+    tell(alloc, text, &mut notes, options);
+    notes
+}
+
+/// Tells a text so, and leaves what is noted of it.
+fn tell(alloc: Global, text: &str, notes: &mut Notes<'static, Vec<u8>>, options: &Options) {
     let mut written = Vec::new(alloc);
     let _ = run_and_note(
         &Serial,
         alloc,
-        &mut source,
+        &mut source(text),
         &mut written,
-        &mut notes,
+        notes,
         options,
         Nobody,
     );
-    notes
 }
 
 /// What the run that is kept covered, in this form.
@@ -260,24 +264,38 @@ fn knows_no_answers_of_workers(rt: HostRuntime) {
     assert!(rt; plain.as_slice() == ON_THREADS.as_bytes());
 }
 
-/// Who tells only what a run covered has no use for its course.
+/// Who tells only what a run covered has no use for its order.
 #[test]
-fn keeps_a_course_where_asked(rt: HostRuntime) {
-    for keeps_course in [false, true] {
-        let notes = told_by_workers(&rt, rt.alloc(), keeps_course);
-        let course = notes.run.as_ref().and_then(|run| run.course.as_ref());
-        assert!(rt; course.is_some() == keeps_course);
+fn keeps_an_order_where_asked(rt: HostRuntime) {
+    for keeps_order in [false, true] {
+        let serial = told_serially(rt.alloc(), keeps_order);
+        assert!(rt; has_log(&serial) == keeps_order);
+        let by_workers = told_by_workers(&rt, rt.alloc(), keeps_order);
+        assert!(rt; has_log(&by_workers) == keeps_order);
     }
 }
 
-/// The notes of a run with workers that is kept, with its course or without.
+/// Whether something is kept of a run, so that its order can be told.
+fn has_log(notes: &Notes<'_, Vec<u8>>) -> bool {
+    notes.run.as_ref().is_some_and(|run| run.log.is_some())
+}
+
+/// The notes of a serial run that is kept, with what tells its order or without.
+fn told_serially(alloc: Global, keeps_order: bool) -> Notes<'static, Vec<u8>> {
+    let mut notes = notes(alloc, true);
+    notes.keeps_order = keeps_order;
+    tell(alloc, TEXT, &mut notes, &SERIAL);
+    notes
+}
+
+/// The notes of a run with workers that is kept, with what tells its order or without.
 fn told_by_workers<R: Abort + Wait + Threads + Sync>(
     rt: &R,
     alloc: Global,
-    keeps_course: bool,
+    keeps_order: bool,
 ) -> Notes<'static, Vec<u8>> {
     let mut notes = notes(alloc, true);
-    notes.keeps_course = keeps_course;
+    notes.keeps_order = keeps_order;
     let mut written = Vec::new(alloc);
     let outcome = run_and_note(
         &Threaded::new(rt),
@@ -295,7 +313,7 @@ fn told_by_workers<R: Abort + Wait + Threads + Sync>(
 /// A run that is covered can be drawn, too.
 #[test]
 fn draws_the_same_run(rt: HostRuntime) {
-    let notes = told(rt.alloc(), TEXT, true, &SERIAL);
+    let notes = told_serially(rt.alloc(), true);
     let all = Selection {
         only: Vec::new(rt.alloc()),
         from: None,

@@ -132,7 +132,7 @@ fn run_of(rt: &impl Abort, alloc: Global) -> Run {
         failed: false,
         stuck: None,
         keeps: true,
-        keeps_course: true,
+        keeps_order: true,
         run: None,
         texts: None,
     };

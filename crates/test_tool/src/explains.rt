@@ -48,7 +48,7 @@ fn explaining<N>(writer: N) -> Notes<'static, N> {
         failed: false,
         stuck: None,
         keeps: false,
-        keeps_course: false,
+        keeps_order: false,
         run: None,
         texts: None,
     }

@@ -28,7 +28,7 @@ fn tells_none_if_none_is_asked_for(rt: HostRuntime) {
         failed: false,
         stuck: None,
         keeps: false,
-        keeps_course: false,
+        keeps_order: false,
         run: None,
         texts: None,
     };

@@ -1,4 +1,4 @@
-//! The order of a run with workers through the whole tool: what each order has, whatever the schedule.
+//! The order of a run through the whole tool: what each order has, whatever the schedule.
 
 use sdl_engine::{
     Command, Names, Nobody, Notes, Options, Outcome, Source, TextFault, Threaded, View,
@@ -37,24 +37,25 @@ static LINES: [(&str, usize); 10] = [
 /// How many events it has.
 const EVENTS: usize = 440;
 
-/// How many workers a run is tried with, how often.
-static CREWS: [u8; 4] = [1, 2, 4, 16];
+/// How many workers a run is tried with, how often. None: it is serial.
+static CREWS: [Option<u8>; 5] = [None, Some(1), Some(2), Some(4), Some(16)];
 
 const ROUNDS: usize = 10;
 
 #[test]
 fn tells_each_event_once(rt: HostRuntime) {
-    for workers in &CREWS {
+    for crew in &CREWS {
         for _ in 0..ROUNDS {
-            expect_lines(&rt, rt.alloc(), *workers);
+            expect_lines(&rt, rt.alloc(), *crew);
         }
     }
 }
 
 /// Sees that the order of a run by so many workers is known to its end, and that each of its lines is there.
-fn expect_lines<R: Abort + Wait + Threads + Sync>(rt: &R, alloc: Global, workers: u8) {
+fn expect_lines<R: Abort + Wait + Threads + Sync>(rt: &R, alloc: Global, crew: Option<u8>) {
     let mut written = Vec::new(alloc);
-    let notes = told(rt, alloc, View::Lines, workers, false, &mut written);
+    let notes = told(rt, alloc, View::Lines, crew, false, &mut written);
+    let workers = crew.unwrap_or(0);
     assert!(rt; notes.stuck.is_none(), "{workers} workers");
     for (end, count) in &LINES {
         let found = lines_ending(&written, end);
@@ -68,35 +69,46 @@ fn expect_lines<R: Abort + Wait + Threads + Sync>(rt: &R, alloc: Global, workers
 
 #[test]
 fn tells_it_as_json(rt: HostRuntime) {
-    for workers in &CREWS {
+    for crew in &CREWS {
         let mut written = Vec::new(rt.alloc());
-        let notes = told(&rt, rt.alloc(), View::Json, *workers, false, &mut written);
-        assert!(rt; notes.stuck.is_none(), "{workers} workers");
+        let notes = told(&rt, rt.alloc(), View::Json, *crew, false, &mut written);
+        assert!(rt; notes.stuck.is_none());
     }
 }
 
 /// A chart needs what the run keeps for its order.
 #[test]
-fn draws_it_where_its_course_is_kept(rt: HostRuntime) {
-    for keeps_course in [false, true] {
-        let mut written = Vec::new(rt.alloc());
-        let notes = told(&rt, rt.alloc(), View::Trace, 4, keeps_course, &mut written);
-        let run = notes.run.as_ref().expect(&rt, "a run");
-        let all = Selection {
-            only: Vec::new(rt.alloc()),
-            from: None,
-            until: None,
-        };
-        let mut chart = Vec::new(rt.alloc());
-        let drawn = draw(rt.alloc(), run, Form::Msc, &all, &mut chart);
-        let wanted = if keeps_course {
-            Ok(None)
-        } else {
-            Err(TextFault::Memory)
-        };
-        assert!(rt; drawn == wanted);
-        assert!(rt; chart.is_empty() == !keeps_course);
+fn draws_it_where_its_order_is_kept(rt: HostRuntime) {
+    for keeps_order in [false, true] {
+        expect_drawn(&rt, rt.alloc(), None, keeps_order);
+        expect_drawn(&rt, rt.alloc(), Some(4), keeps_order);
     }
+}
+
+/// Sees that a run by so many workers is drawn just if what tells its order is kept.
+fn expect_drawn<R: Abort + Wait + Threads + Sync>(
+    rt: &R,
+    alloc: Global,
+    crew: Option<u8>,
+    keeps_order: bool,
+) {
+    let mut written = Vec::new(alloc);
+    let notes = told(rt, alloc, View::Trace, crew, keeps_order, &mut written);
+    let run = notes.run.as_ref().expect(rt, "a run");
+    let all = Selection {
+        only: Vec::new(alloc),
+        from: None,
+        until: None,
+    };
+    let mut chart = Vec::new(alloc);
+    let drawn = draw(alloc, run, Form::Msc, &all, &mut chart);
+    let wanted = if keeps_order {
+        Ok(None)
+    } else {
+        Err(TextFault::Memory)
+    };
+    assert!(rt; drawn == wanted);
+    assert!(rt; chart.is_empty() == !keeps_order);
 }
 
 /// The notes of a run by so many workers, which is whole and kept. What is told of it is written.
@@ -104,14 +116,14 @@ fn told<R: Abort + Wait + Threads + Sync>(
     rt: &R,
     alloc: Global,
     view: View,
-    workers: u8,
-    keeps_course: bool,
+    workers: Option<u8>,
+    keeps_order: bool,
     written: &mut Vec<u8>,
 ) -> Notes<'static, Vec<u8>> {
     let options = Options {
         command: Command::Run,
         view,
-        workers: Some(workers),
+        workers,
         limit: Options::DEFAULT_LIMIT,
     };
     let mut source = Source {
@@ -119,7 +131,7 @@ fn told<R: Abort + Wait + Threads + Sync>(
         script: None::<&[u8]>,
     };
     let mut notes = silent_notes(alloc);
-    notes.keeps_course = keeps_course;
+    notes.keeps_order = keeps_order;
     let outcome = run_and_note(
         &Threaded::new(rt),
         alloc,
@@ -129,7 +141,7 @@ fn told<R: Abort + Wait + Threads + Sync>(
         &options,
         Nobody,
     );
-    assert!(rt; outcome == Ok(Outcome::Whole), "{workers} workers");
+    assert!(rt; outcome == Ok(Outcome::Whole));
     notes
 }
 
@@ -146,7 +158,7 @@ fn silent_notes(alloc: Global) -> Notes<'static, Vec<u8>> {
         failed: false,
         stuck: None,
         keeps: true,
-        keeps_course: false,
+        keeps_order: false,
         run: None,
         texts: None,
     }

@@ -68,7 +68,7 @@ fn run<S: Read + Drop>(alloc: Global, script: Option<S>) -> Told {
         failed: false,
         stuck: None,
         keeps: false,
-        keeps_course: false,
+        keeps_order: false,
         run: None,
         texts: None,
     };

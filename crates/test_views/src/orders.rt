@@ -1,4 +1,4 @@
-//! Reports whose records come from two runs: two as a run on threads may have them, and two that no order tells.
+//! Reports whose records come from two runs, told in orders that are written by hand.
 
 use crate::texts::{in_json, in_lines, report_of, system_of};
 use run_record::Report;
@@ -110,6 +110,21 @@ static LATE_LINES: &str = "0 #1 B start
 end 6 whole
 ";
 
+/// In the order of the lines, and then records close.
+static LATE_TELLERS: [u32; 27] = [
+    1, 1, 1, 2, 2, 2, 1, 1, 1, 1, 1, 2, 2, 1, 1, 1, 1, 1, 1, 2, 2, 2, 3, 3, 3, 3, 0,
+];
+
+/// A sends before B creates anybody.
+static EARLY_TELLERS: [u32; 10] = [1, 1, 1, 2, 2, 2, 2, 2, 2, 2];
+
+static EARLY_END: &str = "5 #2 A input T from #2
+  nextstate late
+5 #2 A provided 1
+end 6 whole
+order: not known from #2 on
+";
+
 /// A sends to B and then to Q in one transition. B creates Q when it takes what A sent, or when it's told to before.
 static CIRCLE: &str = "system Circle;
 
@@ -159,9 +174,14 @@ static CIRCLE_LINES: &str = "0 #1 A start
   nextstate waiting
 0 #2 B start
   nextstate making
+5 #1 A input T from #1
+  output go to #2 waits
 end 6 whole
 order: not known from #1 on
 ";
+
+/// Both start; A takes T, and sends to B and then to Q.
+static CIRCLE_TELLERS: [u32; 9] = [1, 1, 1, 2, 2, 1, 1, 1, 1];
 
 /// A teller sends to the number that it's told. A maker creates who has that number.
 static TOLD: &str = "system Told;
@@ -228,6 +248,9 @@ static TOLD_LINES: &str = "0 #1 Teller start
 end 2 whole
 ";
 
+/// In the order of the lines. The lines of the script are no events.
+static TOLD_TELLERS: [u32; 19] = [1, 1, 2, 2, 0, 2, 2, 2, 0, 1, 1, 1, 1, 3, 3, 3, 3, 3, 3];
+
 /// A reader takes what a writer sends once the environment asks for it.
 static UNSENT: &str = "system Unsent;
 
@@ -265,6 +288,9 @@ end 0 whole
 order: not known from #1 on
 ";
 
+/// Both start, and the reader takes what nobody sent.
+static UNSENT_TELLERS: [u32; 6] = [1, 1, 2, 2, 1, 1];
+
 static UNSENT_JSON: &str = "\
     {\"at\":0,\"instance\":1,\"process\":\"Reader\",\"by\":\"start\",\"does\":[{\"nextstate\":\"reading\"}]}\n\
     {\"at\":0,\"instance\":2,\"process\":\"Writer\",\"by\":\"start\",\"does\":[{\"nextstate\":\"writing\"}]}\n\
@@ -272,41 +298,47 @@ static UNSENT_JSON: &str = "\
     \"rest\":\"reading\"},{\"instance\":2,\"process\":\"Writer\",\"parent\":null,\"rest\":\"writing\"}]}\n\
     {\"stuck\":1}\n";
 
-/// What is sent by name waits for the create of who takes it.
+/// What is sent by name is told after the create of who takes it, and can't be told before.
 #[test]
 fn sends_after_the_create(rt: HostRuntime) {
-    let system = system_of(&rt, rt.alloc(), LATE);
-    let report = mixed(&rt, rt.alloc(), &system, "6\n", "0 slow\n6\n", 0);
-    let lines = in_lines(rt.alloc(), &system, &report, 1).expect(&rt, "lines");
+    let alloc = rt.alloc();
+    let system = system_of(&rt, alloc, LATE);
+    let report = mixed(&rt, alloc, &system, "6\n", "0 slow\n6\n", 0);
+    let lines = in_lines(alloc, &system, &report, &LATE_TELLERS, 1).expect(&rt, "lines");
     assert!(rt; lines.as_slice() == LATE_LINES.as_bytes());
+    let lines = in_lines(alloc, &system, &report, &EARLY_TELLERS, 1).expect(&rt, "lines");
+    assert!(rt; str::from_utf8(lines.as_slice()).is_ok_and(|text| text.ends_with(EARLY_END)));
 }
 
-/// What is sent to a number waits for the create of who has it, if that takes it all.
+/// What is sent to a number is there once who has it is created.
 #[test]
 fn sends_to_a_number_after_the_create(rt: HostRuntime) {
-    let system = system_of(&rt, rt.alloc(), TOLD);
+    let alloc = rt.alloc();
+    let system = system_of(&rt, alloc, TOLD);
     let (apart, together) = ("1 make\n2 tell(#3)\n", "1 make\n1 tell(#3)\n2\n");
-    let report = mixed(&rt, rt.alloc(), &system, apart, together, 0);
-    let lines = in_lines(rt.alloc(), &system, &report, 2).expect(&rt, "lines");
+    let report = mixed(&rt, alloc, &system, apart, together, 0);
+    let lines = in_lines(alloc, &system, &report, &TOLD_TELLERS, 2).expect(&rt, "lines");
     assert!(rt; lines.as_slice() == TOLD_LINES.as_bytes());
 }
 
-/// Nobody makes the whole of its transition first.
+/// A can't make the whole of its transition at once.
 #[test]
-fn orders_whole_transitions(rt: HostRuntime) {
-    let system = system_of(&rt, rt.alloc(), CIRCLE);
-    let report = mixed(&rt, rt.alloc(), &system, "0 make\n6\n", "6\n", 1);
-    let lines = in_lines(rt.alloc(), &system, &report, 0).expect(&rt, "lines");
+fn stops_in_a_transition(rt: HostRuntime) {
+    let alloc = rt.alloc();
+    let system = system_of(&rt, alloc, CIRCLE);
+    let report = mixed(&rt, alloc, &system, "0 make\n6\n", "6\n", 1);
+    let lines = in_lines(alloc, &system, &report, &CIRCLE_TELLERS, 0).expect(&rt, "lines");
     assert!(rt; lines.as_slice() == CIRCLE_LINES.as_bytes());
 }
 
 #[test]
 fn says_where_the_order_ends(rt: HostRuntime) {
-    let system = system_of(&rt, rt.alloc(), UNSENT);
-    let report = mixed(&rt, rt.alloc(), &system, "0 ask\n", "0\n", 1);
-    let lines = in_lines(rt.alloc(), &system, &report, 0).expect(&rt, "lines");
+    let alloc = rt.alloc();
+    let system = system_of(&rt, alloc, UNSENT);
+    let report = mixed(&rt, alloc, &system, "0 ask\n", "0\n", 1);
+    let lines = in_lines(alloc, &system, &report, &UNSENT_TELLERS, 0).expect(&rt, "lines");
     assert!(rt; lines.as_slice() == UNSENT_LINES.as_bytes());
-    let json = in_json(rt.alloc(), &system, &report).expect(&rt, "JSON");
+    let json = in_json(alloc, &system, &report, &UNSENT_TELLERS).expect(&rt, "JSON");
     assert!(rt; json.as_slice() == UNSENT_JSON.as_bytes());
 }
 

@@ -1,9 +1,9 @@
 //! A run in which a transition is told in parts: #1 sends x, #2 takes it and answers #1, and then #1 ends.
 
 use crate::runs::{Run, all, chart_of};
-use crate::texts::{in_json_by, in_lines_by, in_msc_by, report_of, system_of};
+use crate::texts::{in_json, in_lines, in_msc, report_of, system_of};
 use view_chart::Chart;
-use view_order::timeline_in;
+use view_timeline::timeline_in;
 
 static TEXT: &str = "system Parts;
 
@@ -95,7 +95,7 @@ fn tells_parts_in_lines(rt: HostRuntime) {
     let alloc = rt.alloc();
     let system = system_of(&rt, alloc, TEXT);
     let report = report_of(&rt, alloc, &system, SCRIPT);
-    let lines = in_lines_by(alloc, &system, &report, &TELLERS).expect(&rt, "lines");
+    let lines = in_lines(alloc, &system, &report, &TELLERS, 0).expect(&rt, "lines");
     assert!(rt; lines.as_slice() == LINES.as_bytes());
 }
 
@@ -104,7 +104,7 @@ fn tells_parts_in_json(rt: HostRuntime) {
     let alloc = rt.alloc();
     let system = system_of(&rt, alloc, TEXT);
     let report = report_of(&rt, alloc, &system, SCRIPT);
-    let json = in_json_by(alloc, &system, &report, &TELLERS).expect(&rt, "JSON");
+    let json = in_json(alloc, &system, &report, &TELLERS).expect(&rt, "JSON");
     assert!(rt; json.as_slice() == JSON.as_bytes());
 }
 
@@ -113,7 +113,7 @@ fn tells_parts_in_a_chart(rt: HostRuntime) {
     let alloc = rt.alloc();
     let system = system_of(&rt, alloc, TEXT);
     let report = report_of(&rt, alloc, &system, SCRIPT);
-    let msc = in_msc_by(alloc, "Parts", &system, &report, &TELLERS).expect(&rt, "a text");
+    let msc = in_msc(alloc, "Parts", &system, &report, &TELLERS).expect(&rt, "a text");
     assert!(rt; msc.as_slice() == MSC.as_bytes());
 }
 
@@ -123,7 +123,7 @@ fn stops_where_nothing_was_sent(rt: HostRuntime) {
     let alloc = rt.alloc();
     let system = system_of(&rt, alloc, TEXT);
     let report = report_of(&rt, alloc, &system, SCRIPT);
-    let lines = in_lines_by(alloc, &system, &report, &[2, 2, 2]).expect(&rt, "lines");
+    let lines = in_lines(alloc, &system, &report, &[2, 2, 2], 0).expect(&rt, "lines");
     let told = "0 #2 B start\n  nextstate waiting\nend 9 whole\norder: not known from #2 on\n";
     assert!(rt; lines.as_slice() == told.as_bytes());
 }

@@ -5,11 +5,11 @@ use sdl_build::build;
 use sdl_parse::parse;
 use sdl_script::read_script;
 use sdl_system::System;
-use serial_run::run_serial;
+use serial_run::{Nobody, SerialRun, run_serial_noted};
 use std::alloc::Global;
 use std::process::Abort;
 use view_chart::{Chart, Selection, Subject, lay_out};
-use view_timeline::{Timeline, timeline};
+use view_timeline::{Timeline, timeline_in};
 
 /// A run, with all that is told of it.
 #[derive(Drop)]
@@ -24,8 +24,12 @@ pub fn run_of<R: Abort>(rt: &R, alloc: Global, text: &str, script: &str, limit: 
     let tree = parse(alloc, text.as_bytes()).expect(rt, "a tree");
     let system = build(alloc, &tree).expect(rt, "a system");
     let script = read_script(alloc, &system, script.as_bytes()).expect(rt, "a script");
-    let report = run_serial(alloc, &system, &script, limit).expect(rt, "a report");
-    let timeline = timeline(alloc, &report).ok().expect(rt, "a timeline");
+    let ran = run_serial_noted(alloc, &system, &script, limit, Nobody, true).expect(rt, "a run");
+    let SerialRun { report, order } = ran;
+    let tellers = order.into_list().expect(rt, "whose events were told");
+    let timeline = timeline_in(alloc, &report, &tellers)
+        .ok()
+        .expect(rt, "a timeline");
     Run {
         system,
         report,

@@ -8,10 +8,13 @@ use run_record::{Record, Report};
 use sdl_system::{Dest, ProcessId, StateId, System, Target};
 use std::alloc::{AllocError, Global};
 use std::process::Abort;
-use view_timeline::timeline;
+use view_timeline::timeline_in;
 
 /// `found`, among the signals of the text.
 const FOUND: SignalId = SignalId(2);
+
+/// #1 starts, creates #3, sends and enters its state; then #3 starts.
+static TELLERS: [u32; 6] = [1, 1, 1, 1, 3, 3];
 
 /// Sender #1 creates Keeper #3, and sends a signal to it. There is no #2.
 fn records(alloc: Global) -> Result<Vec<Record>, AllocError> {
@@ -46,7 +49,7 @@ fn spent(rt: &impl Abort, alloc: Global) -> (System, Report) {
 #[test]
 fn names_who_has_the_number_in_text(rt: HostRuntime) {
     let (system, report) = spent(&rt, rt.alloc());
-    let text = in_msc(rt.alloc(), "Relay", &system, &report).expect(&rt, "a text");
+    let text = in_msc(rt.alloc(), "Relay", &system, &report, &TELLERS).expect(&rt, "a text");
     let line = "out found_ to lost Keeper_3 comment 'waits'";
     assert!(rt; str::from_utf8(text.as_slice()).is_ok_and(|text| text.contains(line)));
 }
@@ -55,7 +58,9 @@ fn names_who_has_the_number_in_text(rt: HostRuntime) {
 fn names_who_has_the_number_in_a_chart(rt: HostRuntime) {
     let alloc = rt.alloc();
     let (system, report) = spent(&rt, alloc);
-    let timeline = timeline(alloc, &report).ok().expect(&rt, "a timeline");
+    let timeline = timeline_in(alloc, &report, &TELLERS)
+        .ok()
+        .expect(&rt, "a timeline");
     let run = Run {
         system,
         report,

@@ -1,4 +1,4 @@
-//! The texts of a report, as far as its order is known.
+//! The texts of a report in an order of its events, as far as that goes.
 
 ghost use Rattle.std.specs.Prelude.{IfSome};
 ghost use Rattle.std.specs.List.{AllByRecursion};
@@ -16,8 +16,7 @@ use std::process::Abort;
 use view_json::write_json;
 use view_lines::write_lines;
 use view_msc::write_msc;
-use view_order::timeline_in;
-use view_timeline::{Timeline, Untold, timeline};
+use view_timeline::{Timeline, Untold, timeline_in};
 
 static LIMIT: u64 = 1_000_000;
 
@@ -40,22 +39,6 @@ struct Order {
     stuck: Option<u32>,
 }
 
-/// A timeline of a report, as far as it goes, if there is memory for it.
-fn order_of(alloc: Global, report: &Report) -> Option<Order>
-    ensures parts { IfSome result (λ order.
-        AllByRecursion (IsPart report.now.records.items) order.told.moves.items) }
-    ensures begun { IfSome result (λ order. AreBegun report.now.records.items order.told) }
-{
-    match timeline(alloc, report) {
-        Ok(told) => Some(Order { told, stuck: None }),
-        Err(Untold::Stuck { told, number }) => Some(Order {
-            told,
-            stuck: Some(number),
-        }),
-        Err(Untold::Memory) => None,
-    }
-}
-
 /// A timeline of a report in which the events of these instances come one after the other, as far as it goes, if there
 /// is memory for it.
 fn order_in(alloc: Global, report: &Report, tellers: &[u32]) -> Option<Order>
@@ -73,31 +56,24 @@ fn order_in(alloc: Global, report: &Report, tellers: &[u32]) -> Option<Order>
     }
 }
 
-/// The lines of a report, as far as its order is known, if they can be written.
-pub fn in_lines(alloc: Global, system: &System, report: &Report, sent: usize) -> Option<Vec<u8>> {
-    let order = order_of(alloc, report)?;
+/// The lines of a report in which the events of these instances come one after the other, if they can be written. The
+/// script sends so many signals.
+pub fn in_lines(
+    alloc: Global,
+    system: &System,
+    report: &Report,
+    tellers: &[u32],
+    sent: usize,
+) -> Option<Vec<u8>> {
+    let order = order_in(alloc, report, tellers)?;
     let (told, stuck) = (&order.told, order.stuck);
     let mut written = Vec::new(alloc);
     let done = write_lines(alloc, report, told, stuck, sent, &[], system, &mut written);
     if done.is_ok() { Some(written) } else { None }
 }
 
-/// The lines of a report in which the events of these instances come one after the other, if they can be written.
-pub fn in_lines_by(
-    alloc: Global,
-    system: &System,
-    report: &Report,
-    tellers: &[u32],
-) -> Option<Vec<u8>> {
-    let order = order_in(alloc, report, tellers)?;
-    let (told, stuck) = (&order.told, order.stuck);
-    let mut written = Vec::new(alloc);
-    let done = write_lines(alloc, report, told, stuck, 0, &[], system, &mut written);
-    if done.is_ok() { Some(written) } else { None }
-}
-
 /// The JSON of a report in which the events of these instances come one after the other, if it can be written.
-pub fn in_json_by(
+pub fn in_json(
     alloc: Global,
     system: &System,
     report: &Report,
@@ -111,7 +87,7 @@ pub fn in_json_by(
 }
 
 /// The text of Z.120 of a report in which the events of these instances come one after the other, if it can be written.
-pub fn in_msc_by(
+pub fn in_msc(
     alloc: Global,
     name: &str,
     system: &System,
@@ -119,24 +95,6 @@ pub fn in_msc_by(
     tellers: &[u32],
 ) -> Option<Vec<u8>> {
     let order = order_in(alloc, report, tellers)?;
-    let (told, stuck) = (&order.told, order.stuck);
-    let mut written = Vec::new(alloc);
-    let done = write_msc(alloc, name, system, told, stuck, &[], report, &mut written);
-    if done.is_ok() { Some(written) } else { None }
-}
-
-/// The JSON of a report, as far as its order is known, if it can be written.
-pub fn in_json(alloc: Global, system: &System, report: &Report) -> Option<Vec<u8>> {
-    let order = order_of(alloc, report)?;
-    let (told, stuck) = (&order.told, order.stuck);
-    let mut written = Vec::new(alloc);
-    let done = write_json(alloc, report, told, stuck, &[], system, &mut written);
-    if done.is_ok() { Some(written) } else { None }
-}
-
-/// The text of Z.120 of a report, as far as its order is known, if it can be written.
-pub fn in_msc(alloc: Global, name: &str, system: &System, report: &Report) -> Option<Vec<u8>> {
-    let order = order_of(alloc, report)?;
     let (told, stuck) = (&order.told, order.stuck);
     let mut written = Vec::new(alloc);
     let done = write_msc(alloc, name, system, told, stuck, &[], report, &mut written);

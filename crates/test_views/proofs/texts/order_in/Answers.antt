@@ -1,6 +1,6 @@
 -- The parts of each record are its entries up to the last one.
 use Rattle.std.proofs.Common.{arith, length, subst}
-use Rattle.view_order.specs.Parts.{IsStuck, IsUntold}
+use Rattle.view_timeline.specs.Parts.{IsStuck, IsUntold}
 use Rattle.test_views.proofs.texts.order_in.Goals as goal
 
 pub returns-in-Ok-clause-parts : goal.returns-in-Ok-clause-parts
