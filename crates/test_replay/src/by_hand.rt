@@ -1,7 +1,7 @@
 //! What no schedule has for sure, by records and courses that are written by hand.
 
 use crate::written::Did::{
-    Create, Fail, FailWaiting, Rest, Send, Start, Take, TakeFirst, TakeOfEnv, Tick, Wait,
+    Create, Cut, Fail, FailWaiting, Rest, Send, Start, Take, TakeFirst, TakeOfEnv, Tick, Wait,
 };
 use crate::written::{Kept, Written, expect_order};
 use port_values::{Pid, SignalId};
@@ -308,6 +308,55 @@ fn who_fails_may_have_looked(rt: HostRuntime) {
     expect_order(&rt, alloc, UNSEEN, "", &run, &unseen, None);
     let unknown = [1, 2, 3, 3, 2, 2, 2, 1, 1, 1, 3, 3, 3, 3];
     expect_order(&rt, alloc, UNKNOWN, "", &run, &unknown, None);
+}
+
+/// #1 has still something to do where the run is cut, and #2 fails.
+static CUT: &str = "system S; signal x;
+    process P (1, 1); start; nextstate w; state w; provided true; nextstate w; endstate; endprocess;
+    process Q (1, 1); dcl n Integer := 0; start; output x to Q; nextstate w;
+    state w; input x; provided 1 / n > 0; nextstate w; provided n > 5; nextstate w; endstate; endprocess;
+    endsystem;";
+
+/// #2 had drawn nothing when it failed, though its own signal was in its port.
+fn cut(alloc: Global) -> Result<Written, AllocError> {
+    let mut run = Written::new(alloc, 0, &[])?;
+    run.report.whole = false;
+    run.add(
+        P,
+        Pid::Null,
+        &[Start, Wait, Cut],
+        Kept {
+            puts: &[],
+            drawn: &[0],
+            versions: &[],
+            senders: &[],
+        },
+    )?;
+    run.add(
+        Q,
+        Pid::Null,
+        &[
+            Start,
+            Send(X, Dest::Process(Q), 2),
+            Wait,
+            FailWaiting(Failure::ZeroDivisor),
+        ],
+        Kept {
+            puts: &[1],
+            drawn: &[0, 0],
+            versions: &[2, 3],
+            senders: &[(2, 1)],
+        },
+    )?;
+    Ok(run)
+}
+
+/// #2 may put its signal only once it is known that its look is none. By then #1 isn't asked whether it rests: it doesn't.
+#[test]
+fn who_is_cut_need_not_rest(rt: HostRuntime) {
+    let alloc = rt.alloc();
+    let run = cut(alloc).expect(&rt, "a run");
+    expect_order(&rt, alloc, CUT, "", &run, &[1, 1, 2, 2, 2, 2], None);
 }
 
 /// A run of one instance, which found no memory for its next state.

@@ -31,6 +31,8 @@ pub enum Did {
     /// The clock moves by one.
     Tick,
     Rest,
+    /// The run is cut while it waits.
+    Cut,
 }
 
 /// What a run keeps of an instance.
@@ -133,6 +135,7 @@ fn note(alloc: Global, record: &mut Record, at: Ticks, did: Did) -> Result<(), A
         Did::Fail(why) => record.failed(why),
         Did::Tick => {}
         Did::Rest => record.rest(StateId(0)),
+        Did::Cut => record.cut(StateId(0)),
     }
     Ok(())
 }
