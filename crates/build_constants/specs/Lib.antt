@@ -1,6 +1,6 @@
 pub mod Broken
-pub mod Counts
 pub mod ConstantTable
+pub mod Counts
 pub mod Limit
 pub mod Scopes
 pub mod Synonyms

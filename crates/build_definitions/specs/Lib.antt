@@ -1,7 +1,7 @@
 pub mod Broken
+pub mod Definitions
 pub mod Parts
 pub mod Rows
 pub mod Seen
 pub mod Sorts
-pub mod Definitions
 pub mod Views

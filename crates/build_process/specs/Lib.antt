@@ -2,5 +2,5 @@ pub mod Conditions
 pub mod Faulty
 pub mod Made
 pub mod Meant
-pub mod Refused
 pub mod ProcessScope
+pub mod Refused

@@ -1,6 +1,6 @@
 mod Bare
-mod Executions
 mod Ends
+mod Executions
 mod Follows
 mod Grown
 mod Lacking

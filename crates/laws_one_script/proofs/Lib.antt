@@ -1,6 +1,6 @@
-mod Parts
-mod Spellings
-mod Meanings
-mod Texts
 mod Faults
+mod Meanings
+mod Parts
 mod Refusals
+mod Spellings
+mod Texts

@@ -1,5 +1,5 @@
-pub mod LineLemmas
 pub mod DifferenceLemmas
 pub mod GrowthLemmas
-pub mod SenderLemmas
+pub mod LineLemmas
 pub mod OutputLemmas
+pub mod SenderLemmas

@@ -1,7 +1,7 @@
 pub mod Ends
 pub mod Instances
-pub mod Numbers
 pub mod NumberSets
+pub mod Numbers
 pub mod Roster
 pub mod Rule
 pub mod Steps

@@ -2,8 +2,9 @@
 
 ghost use Rattle.std.specs.Prelude.{◌≡◌, [], IfOk};
 
-use crate::seat::MOST_SPLITS;
-use crate::{Seat, Table, steps};
+use crate::seat::{MOST_SPLITS, Seat};
+use crate::steps;
+use crate::table::Table;
 use std::alloc::{AllocError, Global};
 
 /// A table from which no number is drawn, and its first seat. Refused for lack of memory.

@@ -5,8 +5,8 @@ ghost use Rattle.sdl_instances.specs.Ends.{seat_of, IsSeat};
 ghost use Rattle.sdl_instances.specs.Numbers.{EachOnce, AreOneTo};
 
 use crate::rule::Place;
-use crate::table::MOST_NUMBERS;
-use crate::{Table, steps};
+use crate::steps;
+use crate::table::{MOST_NUMBERS, Table};
 use std::marker::Model;
 
 /// How many seats the first one can split off.

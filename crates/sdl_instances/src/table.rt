@@ -4,8 +4,10 @@ ghost use Rattle.std.specs.Prelude.{◌≡◌, ◌<◌, ◌≤◌, [], ◌∷◌
 ghost use Rattle.sdl_instances.specs.Ends.{IsTable};
 ghost use Rattle.sdl_instances.specs.Numbers.{times, EachOnce, AreOneTo};
 
+use crate::full::Full;
 use crate::rule::Word;
-use crate::{Full, Seat, steps};
+use crate::seat::Seat;
+use crate::steps;
 use std::marker::Model;
 
 /// How many numbers there are: as many as there may be instances in a run.

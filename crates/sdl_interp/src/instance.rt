@@ -8,7 +8,7 @@ ghost use Rattle.port_model.specs.Port.{empty_port, expires, is_spent, put_into}
 ghost use Rattle.run_semantics.specs.Instance.{parameters_from};
 ghost use Rattle.sdl_interp.specs.Instance.{HasNothing, HasRunOf, IsAtRest, IsClosed, Keeps, NeedsStep, Steps, came_to, created, variables_from};
 
-use crate::Ahead;
+use crate::ahead::Ahead;
 use crate::stimulus::{fail_at, step_from};
 use port_inbox::{Alone, Fuse, Inbox, Refused};
 use port_values::{Item, Ticks, Value, Values};

@@ -1,5 +1,5 @@
 -- The laws of channels and their connections.
-use Rattle.parse_behaviour.proofs.Words.{Agent, Anywhere, Bool, Both, ChannelEnd, ChannelPath, Env, Followed, Form, IsMark, Law, Made, Nothing, Option, Optional, SpellsChannel, SpellsClosing, SpellsConnect, SpellsName, SpellsNoDelay, SpellsPath, SpellsPoint, Spot, Words, ap, as_law, behind_law, both_law, closing_begins, closing_law, either_as, either_law, end_other, ended_law, erased_channel, erased_connection, erased_end, erased_path, false, followed_law, front, inl, inr, made_as, made_law, mark_law, maybe_mark, name_law, nothing_law, option_map, optional_law, record_law, refl, same_mark, sees, sees_at, sees_front, sigs_law, stops_law, then_law, tied_law, true, ◌∙◌, ◌≡◌, ◌⊎◌, names_law, closed_same}
+use Rattle.sdl_parse.proofs.Words.{Agent, Anywhere, Bool, Both, ChannelEnd, ChannelPath, Env, Followed, Form, IsMark, Law, Made, Nothing, Option, Optional, SpellsChannel, SpellsClosing, SpellsConnect, SpellsName, SpellsNoDelay, SpellsPath, SpellsPoint, Spot, Words, ap, as_law, behind_law, both_law, closing_begins, closing_law, either_as, either_law, end_other, ended_law, erased_channel, erased_connection, erased_end, erased_path, false, followed_law, front, inl, inr, made_as, made_law, mark_law, maybe_mark, name_law, nothing_law, option_map, optional_law, record_law, refl, same_mark, sees, sees_at, sees_front, sigs_law, stops_law, then_law, tied_law, true, ◌∙◌, ◌≡◌, ◌⊎◌, names_law, closed_same}
 use Rattle.sdl_tree.specs.declared.mark.Mark.TheVariants as mark
 use Rattle.sdl_parse.specs.Channels.{point, path_with, path, nodelay, paths, channel_with, channel, connection_with, connect}
 

@@ -1,10 +1,10 @@
 -- The laws of synonyms, parameters, variables and timers.
-use Rattle.parse_behaviour.proofs.Words.{Anywhere, Behind, Expr, Law, Option, Optional, SpellsDcl, SpellsEnd, SpellsExpr, SpellsFpar, SpellsInitial, SpellsOne, SpellsParameters, SpellsSynonym, SpellsSynonymName, SpellsVariables, Stops, Words, ap, behind_law, both_law, end_other, ended_law, erased_expr, erased_fpar, erased_parameters, erased_synonym, erased_synonyms, erased_timer, erased_timers, erased_variables, expr_law, false, front, loosest, map, mark_law, maybe_mark, name_law, option_map, optional_law, record_law, refl, same_mark, sees, separated_law, sort_law, sorts_law, stops_at, stops_end, stops_last, stops_law, suc, then_law, ℕ, ◌≡◌, optional_at, names_law}
+use Rattle.sdl_parse.proofs.Words.{Anywhere, Behind, Expr, Law, Option, Optional, SpellsDcl, SpellsEnd, SpellsExpr, SpellsFpar, SpellsInitial, SpellsOne, SpellsParameters, SpellsSynonym, SpellsSynonymName, SpellsVariables, Stops, Words, ap, behind_law, both_law, end_other, ended_law, erased_expr, erased_fpar, erased_parameters, erased_synonym, erased_synonyms, erased_timer, erased_timers, erased_variables, expr_law, false, front, loosest, map, mark_law, maybe_mark, name_law, option_map, optional_law, record_law, refl, same_mark, sees, separated_law, sort_law, sorts_law, stops_at, stops_end, stops_last, stops_law, suc, then_law, ℕ, ◌≡◌, optional_at, names_law}
 use Rattle.sdl_tree.specs.declared.mark.Mark.TheVariants as mark
 use Rattle.sdl_tree.specs.Spells.{SpellsTimer}
 use Rattle.sdl_parse.specs.Synonyms.{synonym_with, synonym_name, synonyms_with, synonym}
 use Rattle.sdl_parse.specs.Declarations.{parameters_with, parameters, fpar_with, fpar, some_fpar, initial, variables_with, variables, dcl, timer_with, one, timers_with, timer}
-use Rattle.parse_behaviour.proofs.EndingLaws.{name_no_mark}
+use Rattle.sdl_parse.proofs.EndingLaws.{name_no_mark}
 
 -- ---- synonyms
 

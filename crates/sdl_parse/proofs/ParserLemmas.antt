@@ -1,5 +1,5 @@
 -- What a fault of the reading says of the text.
-use Rattle.parse_behaviour.proofs.Words.{Barred, Deep, Err, Fails, Fixed, IsBarred, IsLeftOut, IsRest, List, Refused, Some, Tree, Word, Words, ap, codes, front, length, limit, read_as, refl, word_place, words_of, ℕ, ◌++◌, ◌∙◌, ◌∷◌, ◌≡◌, ◌≤◌}
+use Rattle.sdl_parse.proofs.Words.{Barred, Deep, Err, Fails, Fixed, IsBarred, IsLeftOut, IsRest, List, Refused, Some, Tree, Word, Words, ap, codes, front, length, limit, read_as, refl, word_place, words_of, ℕ, ◌++◌, ◌∙◌, ◌∷◌, ◌≡◌, ◌≤◌}
 use Rattle.std.specs.String.{string_bytes}
 use Rattle.sdl_lex.specs.declared.place.Place.{Place}
 use Rattle.sdl_lex.specs.declared.token.Token.{Token}

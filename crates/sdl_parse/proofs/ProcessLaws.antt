@@ -1,14 +1,14 @@
 -- The laws of processes.
-use Rattle.parse_behaviour.proofs.Words.{Anywhere, BodyPart, Both, Choice, Counts, Ended, Expr, Fixed, Followed, Form, FormalParameters, Law, List, LocalDefinition, LocalSignalList, LocalSignalSet, LocalSignals, LocalSynonyms, Made, Option, Optional, Or, Repeated, SpellsBodyPart, SpellsBound, SpellsClosing, SpellsCounts, SpellsDcl, SpellsExpr, SpellsFpar, SpellsInner, SpellsPdef, SpellsProcess, SpellsSignal, SpellsSignalList, SpellsSignalSet, SpellsStart, SpellsSynonym, Spot, Start, Stops, Timers, Variables, Words, ap, as_choice, before_law, begins_unseen, behind_law, both_law, closed_list_law, closing_begins, either_as, end_other, ended_law, erased_body_part, erased_bound, erased_counts, erased_expr, erased_fpar, erased_local, erased_process, erased_start, expr_law, false, front, inl, inr, level_begins, loosest, made_as, made_law, map, mark_law, maybe_choice, maybe_law, maybe_mark, name_law, one_choice, option_map, optional_law, or_choice, record_law, refl, repeated_law, same_mark, sees, sees_one, signal_law, signal_list_law, signal_set_law, stops_at, subst, suc, sym, then_law, tied_law, true, unary_mark, value_mark, ℕ, ◌∷◌, ◌≡◌, optional_at, repeated_at}
+use Rattle.sdl_parse.proofs.Words.{Anywhere, BodyPart, Both, Choice, Counts, Ended, Expr, Fixed, Followed, Form, FormalParameters, Law, List, LocalDefinition, LocalSignalList, LocalSignalSet, LocalSignals, LocalSynonyms, Made, Option, Optional, Or, Repeated, SpellsBodyPart, SpellsBound, SpellsClosing, SpellsCounts, SpellsDcl, SpellsExpr, SpellsFpar, SpellsInner, SpellsPdef, SpellsProcess, SpellsSignal, SpellsSignalList, SpellsSignalSet, SpellsStart, SpellsSynonym, Spot, Start, Stops, Timers, Variables, Words, ap, as_choice, before_law, begins_unseen, behind_law, both_law, closed_list_law, closing_begins, either_as, end_other, ended_law, erased_body_part, erased_bound, erased_counts, erased_expr, erased_fpar, erased_local, erased_process, erased_start, expr_law, false, front, inl, inr, level_begins, loosest, made_as, made_law, map, mark_law, maybe_choice, maybe_law, maybe_mark, name_law, one_choice, option_map, optional_law, or_choice, record_law, refl, repeated_law, same_mark, sees, sees_one, signal_law, signal_list_law, signal_set_law, stops_at, subst, suc, sym, then_law, tied_law, true, unary_mark, value_mark, ℕ, ◌∷◌, ◌≡◌, optional_at, repeated_at}
 use Rattle.sdl_tree.specs.declared.expressions.KeywordValue.TheVariants as value
 use Rattle.sdl_tree.specs.declared.expressions.UnaryOperator.TheVariants as unary
 use Rattle.sdl_tree.specs.declared.mark.Mark.TheVariants as mark
 use Rattle.sdl_tree.specs.Spells.{SpellsTimer}
 use Rattle.sdl_tree.specs.Spells.Expressions.{SpellsTimer as SpellsKeys}
 use Rattle.sdl_parse.specs.Processes.{begins_expression_by, begins_expression, count, bound_with, bound, counts_with, counts, local_marks, some_local, local_definition, inside, process_with, process}
-use Rattle.parse_behaviour.proofs.StateLaws.{body_part_law, part_at, part_last, part_ends}
-use Rattle.parse_behaviour.proofs.StepLaws.{NoStatement}
-use Rattle.parse_behaviour.proofs.StimulusLaws.{start_law}
+use Rattle.sdl_parse.proofs.StateLaws.{body_part_law, part_at, part_last, part_ends}
+use Rattle.sdl_parse.proofs.StepLaws.{NoStatement}
+use Rattle.sdl_parse.proofs.StimulusLaws.{start_law}
 use Rattle.sdl_parse.proofs.DeclarationLaws.{synonym_law, some_fpar_law, dcl_law, timer_law}
 
 -- ---- [expr]

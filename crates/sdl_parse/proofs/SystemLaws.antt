@@ -1,5 +1,5 @@
 -- The laws of blocks and of the system.
-use Rattle.parse_behaviour.proofs.Words.{Anywhere, AreAlike, Behind, Block, BlockPart, Channel, Choice, Connect, Definition, Ended, Err, Followed, Form, Gives, InBlock, InSystem, Law, List, Made, MaybeLaw, Or, Process, Refusal, Repeated, SignalList, Signals, SpellsBlock, SpellsBlockPart, SpellsChannel, SpellsClosing, SpellsConnect, SpellsDef, SpellsName, SpellsProcess, SpellsSignal, SpellsSignalList, SpellsSynonym, SpellsSystemDef, SpellsTree, Spot, Synonyms, SystemDefinition, Tied, Tree, Words, [], ap, as_choice, behind_law, closed_list_law, either_as, ended_law, erased, erased_block, erased_block_part, erased_definition, erased_system_definition, front, inl, inr, made, made_as, made_law, mark_law, maybe_choice, name_law, not_refused, one_choice, or_choice, read_as, record_law, refl, same_mark, same_value, sees, sees_one, signal_law, signal_list_law, subst, suc, sym, then_law, tied_law, whole, ℕ, ◌∙◌, ◌∷◌, ◌≡◌, ◌⊎◌, Ok, Outcome, Told, and_then, closed_same}
+use Rattle.sdl_parse.proofs.Words.{Anywhere, AreAlike, Behind, Block, BlockPart, Channel, Choice, Connect, Definition, Ended, Err, Followed, Form, Gives, InBlock, InSystem, Law, List, Made, MaybeLaw, Or, Process, Refusal, Repeated, SignalList, Signals, SpellsBlock, SpellsBlockPart, SpellsChannel, SpellsClosing, SpellsConnect, SpellsDef, SpellsName, SpellsProcess, SpellsSignal, SpellsSignalList, SpellsSynonym, SpellsSystemDef, SpellsTree, Spot, Synonyms, SystemDefinition, Tied, Tree, Words, [], ap, as_choice, behind_law, closed_list_law, either_as, ended_law, erased, erased_block, erased_block_part, erased_definition, erased_system_definition, front, inl, inr, made, made_as, made_law, mark_law, maybe_choice, name_law, not_refused, one_choice, or_choice, read_as, record_law, refl, same_mark, same_value, sees, sees_one, signal_law, signal_list_law, subst, suc, sym, then_law, tied_law, whole, ℕ, ◌∙◌, ◌∷◌, ◌≡◌, ◌⊎◌, Ok, Outcome, Told, and_then, closed_same}
 use Rattle.sdl_tree.specs.declared.mark.Mark.TheVariants as mark
 use Rattle.sdl_parse.specs.Systems.{definition_marks, definition, block_part, block_with, block, system_definition, at_end, tree_with, system, specification}
 use Rattle.sdl_parse.proofs.ChannelLaws.{channel_law, connect_law}

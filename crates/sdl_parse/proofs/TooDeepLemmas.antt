@@ -1,5 +1,5 @@
 -- One too many inside each other, in a whole text.
-use Rattle.parse_behaviour.proofs.Words.{Anywhere, Fixed, GoesOn, IsHead, IsOpening, OpensTooMany, Spelling, SpellsTree, TooMany, Word, Words, ℕ, [], ap, append-nil, append_assoc, arith, first_word, inl, inr, length, length-append, subst, suc, sym, ◌++◌, ◌∙◌, ◌∷◌, ◌≡◌, ◌⊎◌}
+use Rattle.sdl_parse.proofs.Words.{Anywhere, Fixed, GoesOn, IsHead, IsOpening, OpensTooMany, Spelling, SpellsTree, TooMany, Word, Words, ℕ, [], ap, append-nil, append_assoc, arith, first_word, inl, inr, length, length-append, subst, suc, sym, ◌++◌, ◌∙◌, ◌∷◌, ◌≡◌, ◌⊎◌}
 use Rattle.sdl_tree.specs.declared.mark.Mark.TheVariants as mark
 use Rattle.sdl_tree.specs.Depth as depth
 use Rattle.sdl_parse.proofs.SystemLaws.{SpellsSystem}

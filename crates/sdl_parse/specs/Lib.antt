@@ -1,7 +1,14 @@
+pub mod Actions
+pub mod Answers
 pub mod Channels
+pub mod Clauses
 pub mod Declarations
 pub mod ErrorText
 pub mod Parser
 pub mod Processes
+pub mod States
+pub mod Stimuli
 pub mod Synonyms
 pub mod Systems
+pub mod Taken
+pub mod Transitions

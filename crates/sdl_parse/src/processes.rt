@@ -6,12 +6,12 @@ ghost use Rattle.sdl_parse.specs.Processes as spec;
 ghost use Rattle.parse_expressions.specs.Parts.{sees_one};
 ghost use Rattle.parse_cursor.specs.Reads.{Reads};
 
+use crate::behaviour::place::Inside;
+use crate::behaviour::states::{body_part, start};
 use crate::declarations::{dcl, fpar};
 use crate::place::Defining;
 use crate::synonyms::synonym;
 use crate::timers::timer;
-use parse_behaviour::place::Inside;
-use parse_behaviour::states::{body_part, start};
 use parse_cursor::{Cursor, Fault, Perhaps, PlacedWord, Word, repeated};
 use parse_expressions::expressions::expression;
 use parse_expressions::parts::{closing, end};

@@ -1,8 +1,8 @@
 pub mod Arming
 pub mod Beginning
-pub mod LivingLemmas
 pub mod Changes
 pub mod Closing
 pub mod Entering
+pub mod LivingLemmas
 pub mod Performing
 pub mod Thinning

@@ -1,6 +1,6 @@
 pub mod Execution
-pub mod RunState
 pub mod Laws
 pub mod Report
+pub mod RunState
 pub mod Times
 pub mod Told

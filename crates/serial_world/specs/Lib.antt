@@ -1,3 +1,3 @@
+pub mod Counts
 pub mod Effects
 pub mod StepWorld
-pub mod Counts

@@ -4,5 +4,5 @@ mod Lists
 mod LivingLemmas
 mod NameLemmas
 mod NumberLemmas
-mod TargetLemmas
 mod TallyLemmas
+mod TargetLemmas

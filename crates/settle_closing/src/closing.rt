@@ -4,7 +4,7 @@ ghost use Rattle.std.specs.Prelude.{◌≡◌};
 ghost use Rattle.settle_closing.specs.Left.{IsLeftOfOne};
 ghost use Rattle.settle_closing.specs.PortThen.{then_of};
 
-use crate::PortThen;
+use crate::ending::PortThen;
 use input_port::Held;
 use run_course::CourseLog;
 use run_record::Record;

@@ -9,7 +9,7 @@ ghost use Rattle.settle_closing.specs.Left.{HasNoMore, IsClosedNow};
 ghost use Rattle.settle_closing.specs.Noted.{HasNotedRest, IsClosedWith};
 ghost use Rattle.threads_shared.specs.Noting.{StepsAt};
 
-use crate::Closing;
+use crate::closing::Closing;
 use input_port::Held;
 use port_values::Ticks;
 use run_record::RunError;

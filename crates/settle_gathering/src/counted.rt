@@ -4,7 +4,7 @@ ghost use Rattle.std.specs.Prelude.{◌≡◌, IfSome};
 ghost use Rattle.port_queue.specs.Kept.{senders_of};
 ghost use Rattle.settle_gathering.specs.Gathering.{IsCounted};
 
-use crate::Fixed;
+use crate::fixed::Fixed;
 use input_port::Held;
 use std::marker::{Model, PhantomData};
 use std::sync::Wait;

@@ -4,7 +4,9 @@ ghost use Rattle.std.specs.Prelude.{◌≡◌, ◌+◌, ◌≤◌, IfOk, OnOk};
 ghost use Rattle.threads_senders.specs.Peers.{put_by};
 ghost use Rattle.settle_gathering.specs.Gathering.{PutNothing};
 
-use crate::{Counted, Fault, Fixed};
+use crate::counted::Counted;
+use crate::fault::Fault;
+use crate::fixed::Fixed;
 use input_port::{Held, Sender};
 use std::marker::{Model, PhantomData};
 use std::sync::Wait;

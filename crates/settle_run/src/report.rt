@@ -5,11 +5,11 @@ ghost use Rattle.settle_run.specs.Course.{AreRowsOf, HasRows};
 ghost use Rattle.settle_run.specs.Parts.{records_of};
 ghost use Rattle.settle_meaning.specs.Settled.{IsSettledReport};
 
-use crate::Settled;
 use crate::course::{course_of, senders_of};
 use crate::gifts::all_given;
 use crate::parts::{Parts, parts_of};
 use crate::ports::settle_ports;
+use crate::settled::Settled;
 use run_record::{Report, RunError};
 use settle_account::laws::counted_have_put;
 use settle_account::{Ending, compare, end_of_run, summaries_of};

@@ -4,8 +4,8 @@ ghost use Rattle.std.specs.Prelude.{IfOk, IfSome, length};
 ghost use Rattle.settle_run.specs.Course.{HasRows};
 ghost use Rattle.settle_meaning.specs.Settled.{IsSettledReport};
 
-use crate::Settled;
 use crate::report::report_of;
+use crate::settled::Settled;
 use port_values::Ticks;
 use run_record::RunError;
 use settle_account::Ending;

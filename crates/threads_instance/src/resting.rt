@@ -1,6 +1,6 @@
 //! What the mark of its place asks of an instance.
 
-use crate::ThreadInstance;
+use crate::thread_instance::ThreadInstance;
 use port_inbox::Inbox;
 use threads_queue::Rests;
 use threads_senders::Run;

@@ -11,10 +11,10 @@ ghost use Rattle.threads_instance.specs.ThreadInstance.{HasPut, HasSent, IsSeate
 ghost use Rattle.threads_senders.specs.Peers.{ArePeersOf};
 ghost use Rattle.run_semantics.specs.ControlPoint.{Definition};
 
-use crate::doings::Doings;
+use crate::doings::{Doings, Gifts};
 use crate::outbox::Outbox;
+use crate::runtime::Runtime;
 use crate::thread_world::ThreadWorld;
-use crate::{Gifts, Runtime};
 use input_port::Held;
 use port_inbox::Inbox;
 use port_values::{Ticks, Values};

@@ -7,9 +7,9 @@ ghost use Rattle.threads_instance.specs.ThreadWorld.{world_of};
 ghost use Rattle.threads_senders.specs.Peers.{is_known, PutsTo};
 ghost use Rattle.run_semantics.specs.World.{has_port, sent_on};
 
-use crate::Runtime;
 use crate::doings::Doings;
 use crate::outbox::Outbox;
+use crate::runtime::Runtime;
 use port_inbox::Fuse;
 use port_values::{Item, SignalId, Ticks, Values};
 use run_semantics::World;

@@ -6,7 +6,7 @@ ghost use Rattle.run_semantics.specs.World.{has_port};
 ghost use Rattle.threads_ports.specs.Named.{AreMade, AreNamed};
 ghost use Rattle.threads_senders.specs.Peers.{put_by};
 
-use crate::NewPorts;
+use crate::birth::NewPorts;
 use crate::desks::Desks;
 use crate::owners::Owners;
 use input_port::{Owner, Port, Sender};

@@ -13,7 +13,9 @@ ghost use Rattle.run_semantics.specs.World.{Sent};
 ghost use Rattle.run_record.specs.Event.{Event};
 ghost use Rattle.sdl_system.specs.declared.route.Dest.{Dest};
 
-use crate::{NotPut, Peer, Run};
+use crate::not_put::NotPut;
+use crate::peer::Peer;
+use crate::run::Run;
 use indexmap::IndexMap;
 use input_port::{Port, Sender};
 use port_inbox::{Fuse, Refused};

@@ -5,7 +5,7 @@ ghost use Rattle.sdl_instances.specs.Instances.{without_reservation};
 ghost use Rattle.sdl_instances.specs.Roster.{reserved_in};
 ghost use Rattle.threads_shared.specs.Making.{IsMade, IsSpent, LivesSince};
 
-use crate::{Seated, Shared};
+use crate::shared::{Seated, Shared};
 use input_port::{Held, Owner, Port};
 use port_values::{Pid, Values};
 use run_evaluation::Identity;

@@ -3,7 +3,8 @@
 ghost use Rattle.std.specs.Prelude.{◌≡◌, ◌<◌, ◌≤◌, IsTrue, false, length};
 ghost use Rattle.threads_shared.specs.Noting.{IsNoted, IsNotedEnd, IsNotedStep, IsUnnoted};
 
-use crate::{Own, Seated, Shared};
+use crate::own::Own;
+use crate::shared::{Seated, Shared};
 use sdl_interp::Stepped;
 use std::sync::Wait;
 use threads_senders::Run;

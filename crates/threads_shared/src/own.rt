@@ -5,7 +5,10 @@ ghost use Rattle.run_course.specs.KeptWords.{Notes};
 ghost use Rattle.sdl_instances.specs.Roster.{least_living};
 ghost use Rattle.threads_shared.specs.Noting.{NotesLookUp};
 
-use crate::{Addressees, Lookout, Shared, Tables};
+use crate::addressees::Addressees;
+use crate::lookout::Lookout;
+use crate::shared::Shared;
+use crate::tables::Tables;
 use port_inbox::Fuse;
 use port_values::Ticks;
 use run_course::KeptWords;

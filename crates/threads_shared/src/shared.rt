@@ -5,7 +5,8 @@ ghost use Rattle.std.specs.Prelude.{◌≡◌, Some};
 ghost use Rattle.std.specs.VecDeque.{deque_len};
 ghost use Rattle.sdl_system.specs.contracts.expression.Expression as expression;
 
-use crate::{Common, Tables};
+use crate::common::Common;
+use crate::tables::Tables;
 use input_port::Held;
 use sdl_system::System;
 use std::alloc::{AllocError, Global};

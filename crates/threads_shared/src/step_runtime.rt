@@ -1,7 +1,9 @@
 //! What an instance's step asks of the run.
 
-use crate::making::{self, Made};
-use crate::{Own, Shared};
+use crate::making;
+use crate::making::Made;
+use crate::own::Own;
+use crate::shared::Shared;
 use input_port::{Port, Sender};
 use port_inbox::Fuse;
 use port_values::{Pid, SignalId, Values};

@@ -5,7 +5,7 @@ ghost use Rattle.sdl_instances.specs.Roster.{lives_in, turned_in};
 ghost use Rattle.std.specs.Prelude.{◌≡◌, IfOk, if◌then◌else◌, is_some, nat_lt, vec_len};
 ghost use Rattle.threads_shared.specs.Signs.{limit_of, workers_of};
 
-use crate::Signs;
+use crate::signs::Signs;
 use crossbeam_utils::CachePadded;
 use sdl_instances::Roster;
 use sdl_system::{ProcessId, System};

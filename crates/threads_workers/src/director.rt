@@ -3,7 +3,7 @@
 ghost use Rattle.std.specs.Prelude.{◌≡◌, ◌≤◌, IfSome, OnOk};
 ghost use Rattle.threads_environment.specs.Environment.{IsNextAfter};
 
-use crate::Crew;
+use crate::waking::Crew;
 use crossbeam_utils::sync::Parker;
 use port_inbox::Fuse;
 use port_values::Ticks;

@@ -4,7 +4,7 @@ ghost use Rattle.std.specs.Prelude.{◌≡◌, IfOk, IfSome, IsTrue, OnOk, false
 ghost use Rattle.threads_shared.specs.Noting.{HasNoted};
 ghost use Rattle.threads_workers.specs.Left.{HasStepped, IsLeft};
 
-use crate::Gate;
+use crate::gate::Gate;
 use run_record::{Receivers, Record};
 use sdl_interp::{Ahead, Stepped};
 use std::alloc::AllocError;

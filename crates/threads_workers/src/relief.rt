@@ -1,6 +1,6 @@
 //! Help for numbers that wait for a worker that isn't run.
 
-use crate::Crew;
+use crate::waking::Crew;
 use std::alloc::AllocError;
 use std::sync::Wait;
 use threads_senders::Run;

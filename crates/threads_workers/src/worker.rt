@@ -1,8 +1,9 @@
 //! The loop of a worker.
 
+use crate::gate::Gate;
 use crate::job::{count_job, is_to_look, is_to_look_at_others, steps_of, tell_moves};
 use crate::relief::relieve_others;
-use crate::{Crew, Gate};
+use crate::waking::Crew;
 use crossbeam_utils::sync::Parker;
 use sdl_timers::Reader;
 use std::alloc::{AllocError, Global};

@@ -1,2 +1,2 @@
-pub mod PassLemmas
 pub mod CountLemmas
+pub mod PassLemmas

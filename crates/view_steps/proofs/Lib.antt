@@ -4,5 +4,5 @@ mod Losing
 pub mod Opening
 pub mod Passing
 pub mod Ranges
-pub mod Writing
 mod Sent
+pub mod Writing

@@ -1,5 +1,0 @@
-use Rattle.sdl_tree.proofs.ViewLemmas.{decision_value}
-use Rattle.parse_behaviour.proofs.transitions.decision_with.Goals as goal
-
-pub returns : goal.returns
-returns c = decision_value c.args.word c.args.question c.args.parts c.args.otherwise
