@@ -6,10 +6,10 @@ use Rattle.build_constants.specs.Timers.{duration_faults, timer_faults}
 use Rattle.build_constants.specs.Variables.{group_faults, initial_faults}
 use Rattle.build_constants.specs.declared.counts.Part.{Part}
 use Rattle.build_constants.specs.declared.counts.Part.TheVariants.{LeftOut, Refused, Number}
-use Rattle.build_faults.proofs.FaultLemmas.{each-both, each-if, each-of, in-each, in-if, in-left, in-right}
-use Rattle.build_faults.specs.FaultLaws.{Each, In}
-use Rattle.build_faults.specs.Faults.{Diagnostic, fault_if, diagnostic_at, mark_word}
-use Rattle.build_faults.specs.declared.fault.Rule.TheVariants.{BadCount}
+use Rattle.build_names.proofs.FaultLemmas.{each-both, each-if, each-of, in-each, in-if, in-left, in-right}
+use Rattle.build_names.specs.FaultLaws.{Each, In}
+use Rattle.build_names.specs.Faults.{Diagnostic, fault_if, diagnostic_at, mark_word}
+use Rattle.build_names.specs.declared.faults.fault.Rule.TheVariants.{BadCount}
 use Rattle.build_expressions.proofs.ConstantLaws.{broken-listed-constant, listed-broken-constant}
 use Rattle.build_expressions.proofs.ListedLaws.{each-weaker}
 use Rattle.build_expressions.specs.Broken.{IsBrokenConstant}

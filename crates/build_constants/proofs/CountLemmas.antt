@@ -3,9 +3,9 @@ use Rattle.std.proofs.Common.{◌≡◌, ◌∙◌, ◌++◌, List, Option, ap}
 use Rattle.build_constants.specs.Counts.{accepted, are_misfit, part_faults, part_in}
 use Rattle.build_constants.specs.declared.counts.InstanceCounts.{InstanceCounts}
 use Rattle.build_constants.specs.declared.counts.Part.{Part}
-use Rattle.build_faults.proofs.FaultLemmas.{both_noted}
-use Rattle.build_faults.specs.Faults.{Diagnostic, fault_if, least_of}
-use Rattle.build_faults.specs.declared.fault.Rule.TheVariants.{BadCount}
+use Rattle.build_names.proofs.FaultLemmas.{both_noted}
+use Rattle.build_names.specs.Faults.{Diagnostic, fault_if, least_of}
+use Rattle.build_names.specs.declared.faults.fault.Rule.TheVariants.{BadCount}
 use Rattle.build_expressions.specs.Scope.{Scope}
 use Rattle.sdl_tree.specs.Tree.{Expr}
 use Rattle.sdl_tree.specs.Words.{Spot}

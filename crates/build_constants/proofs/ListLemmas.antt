@@ -1,8 +1,8 @@
 -- What one more element of a list gives, where each gives a value and faults.
 use Rattle.std.proofs.Common.{◌≡◌, ◌∙◌, ◌+◌, ◌<◌, ◌≤◌, ◌++◌, ◌∷◌, [], ℕ, List, Option, ap, flat_map, get_or, length, map, subst, sym, take}
 use Rattle.std.proofs.lemmas.List.{flat_map_more, map-append, map_more, take_all}
-use Rattle.build_faults.proofs.FaultLemmas.{both_noted}
-use Rattle.build_faults.specs.Faults.{Diagnostic, least_of}
+use Rattle.build_names.proofs.FaultLemmas.{both_noted}
+use Rattle.build_names.specs.Faults.{Diagnostic, least_of}
 
 -- `items` is the list as a call lends it
 module _ {A B : Type 0} (g : A → B) (xs items : List A) (same : items ≡ xs) (i : ℕ) (x : A)

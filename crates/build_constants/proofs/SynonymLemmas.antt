@@ -6,11 +6,11 @@ use Rattle.std.proofs.lemmas.List.{map-append, take_more}
 use Rattle.std.proofs.lemmas.Slice.Zip.{all_zipped_more}
 use Rattle.build_definitions.specs.Rows.{SynonymRow}
 use Rattle.build_definitions.specs.Definitions.{Rows}
-use Rattle.build_names.specs.declared.symbol_table.SymbolTable.{SymbolTable}
-use Rattle.build_faults.specs.Faults.{Diagnostic, least_of}
+use Rattle.build_definitions.specs.declared.symbols.symbol_table.SymbolTable.{SymbolTable}
+use Rattle.build_names.specs.Faults.{Diagnostic, least_of}
 use Rattle.build_expressions.specs.declared.scope.Constant.{Constant}
-use Rattle.build_synonyms.specs.Synonyms.{synonym_faults}
-use Rattle.build_synonyms.specs.declared.synonym.Synonym.{Synonym}
+use Rattle.build_constants.specs.SynonymsSynonyms.{synonym_faults}
+use Rattle.build_constants.specs.declared.synonyms.synonym.Synonym.{Synonym}
 use Rattle.build_constants.specs.Synonyms.{AreSynonyms, IsSynonym, faults_in_row}
 
 taken-more : {A B : Type 0} (view : A → B) (xs : List A) (i : ℕ) (x : A) → i < length xs → x ≡ get_or xs i x

@@ -4,9 +4,9 @@ use Rattle.port_values.specs.declared.value.Value.{Value}
 use Rattle.build_constants.specs.Counts.{counts_faults, maximum_in}
 use Rattle.build_constants.specs.Timers.{timer_faults}
 use Rattle.build_constants.specs.Variables.{SortedGroup, group_faults}
-use Rattle.build_faults.specs.FaultLaws.{Each, In}
-use Rattle.build_faults.specs.Faults.{Diagnostic, diagnostic_at, mark_word}
-use Rattle.build_faults.specs.declared.fault.Rule.TheVariants.{BadCount}
+use Rattle.build_names.specs.FaultLaws.{Each, In}
+use Rattle.build_names.specs.Faults.{Diagnostic, diagnostic_at, mark_word}
+use Rattle.build_names.specs.declared.faults.fault.Rule.TheVariants.{BadCount}
 use Rattle.build_expressions.specs.Broken.{IsBrokenConstant}
 use Rattle.build_expressions.specs.Constants.{constant_in}
 use Rattle.build_expressions.specs.Scope.{Scope}

@@ -9,8 +9,8 @@ use Rattle.build_definitions.specs.Definitions.{Rows}
 use Rattle.build_constants.specs.Limit.{limit_faults}
 use Rattle.build_constants.specs.Scopes.{scope_in}
 use Rattle.build_constants.specs.Synonyms.{faults_in_row}
-use Rattle.build_names.specs.declared.symbol_table.SymbolTable.{SymbolTable}
-use Rattle.build_faults.specs.Faults.{Diagnostic}
+use Rattle.build_definitions.specs.declared.symbols.symbol_table.SymbolTable.{SymbolTable}
+use Rattle.build_names.specs.Faults.{Diagnostic}
 use Rattle.build_expressions.specs.declared.scope.Constant.{Constant}
 use Rattle.build_expressions.specs.declared.scope.ValueEntry.{ValueEntry}
 use Rattle.build_expressions.specs.declared.scope.ValueEntry.TheVariants as entry

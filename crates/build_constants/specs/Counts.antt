@@ -4,8 +4,8 @@ use Rattle.std.specs.Prelude.{ℤ, pos, ◌++◌, ◌||◌, Bool, false, List, [
 use Rattle.build_constants.specs.declared.counts.InstanceCounts.{InstanceCounts}
 use Rattle.build_constants.specs.declared.counts.Part.{Part}
 use Rattle.build_constants.specs.declared.counts.Part.TheVariants.{LeftOut, Refused, Number}
-use Rattle.build_faults.specs.Faults.{Diagnostic, fault_if, mark_word}
-use Rattle.build_faults.specs.declared.fault.Rule.TheVariants.{BadCount}
+use Rattle.build_names.specs.Faults.{Diagnostic, fault_if, mark_word}
+use Rattle.build_names.specs.declared.faults.fault.Rule.TheVariants.{BadCount}
 use Rattle.build_expressions.specs.Constants.{constant_faults, constant_in}
 use Rattle.build_expressions.specs.Scope.{Scope}
 use Rattle.build_expressions.specs.declared.scope.Constant.{Constant}

@@ -1,8 +1,13 @@
 pub mod Broken
 pub mod ConstantTable
 pub mod Counts
+pub mod Known
+pub mod Laws
 pub mod Limit
+pub mod Named
 pub mod Scopes
 pub mod Synonyms
+pub mod SynonymsBroken
+pub mod SynonymsSynonyms
 pub mod Timers
 pub mod Variables

@@ -2,8 +2,8 @@
 use Rattle.std.specs.Prelude.{ℤ, pos, ◌-ℤ◌, List, [], ◌∷◌, Option, None, Some, int_lt, if◌then◌else◌}
 use Rattle.build_constants.specs.declared.counts.InstanceCounts.{InstanceCounts}
 use Rattle.build_definitions.specs.Rows.{ProcessRow}
-use Rattle.build_faults.specs.Faults.{Diagnostic, diagnostic_at}
-use Rattle.build_faults.specs.declared.fault.Rule.TheVariants.{Limit}
+use Rattle.build_names.specs.Faults.{Diagnostic, diagnostic_at}
+use Rattle.build_names.specs.declared.faults.fault.Rule.TheVariants.{Limit}
 
 abbrev pub most_instances : ℤ
 most_instances = pos 1000

@@ -2,12 +2,12 @@
 -- constants.
 use Rattle.std.specs.Prelude.{List}
 use Rattle.build_definitions.specs.Definitions.{Rows, path_of}
-use Rattle.build_names.specs.declared.symbol_table.SymbolTable.{SymbolTable}
+use Rattle.build_definitions.specs.declared.symbols.symbol_table.SymbolTable.{SymbolTable}
 use Rattle.build_expressions.specs.Scope.{Scope, agent_meaning, meaning, signal_meaning, value_meaning}
 use Rattle.build_expressions.specs.declared.scope.Constant.{Constant}
-use Rattle.build_scopes.specs.Spaces.{seen_in}
-use Rattle.build_scopes.specs.declared.scope.ScopeId.{ScopeId}
-use Rattle.build_scopes.specs.declared.scope.ScopePath.{ScopePath}
+use Rattle.build_names.specs.Spaces.{seen_in}
+use Rattle.build_names.specs.declared.scopes.scope.ScopeId.{ScopeId}
+use Rattle.build_names.specs.declared.scopes.scope.ScopePath.{ScopePath}
 
 -- what is seen in these scopes
 abbrev pub scope_at : SymbolTable → List Constant → ScopePath → Scope

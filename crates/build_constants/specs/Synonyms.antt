@@ -4,14 +4,14 @@ use Rattle.std.specs.List.{AllZip}
 use Rattle.build_definitions.specs.Rows.{ProcessRow, SynonymRow}
 use Rattle.build_definitions.specs.Definitions.{Rows, path_of}
 use Rattle.build_constants.specs.Scopes.{scope_in}
-use Rattle.build_names.specs.declared.symbol_table.SymbolTable.{SymbolTable}
-use Rattle.build_faults.specs.Faults.{Diagnostic}
+use Rattle.build_definitions.specs.declared.symbols.symbol_table.SymbolTable.{SymbolTable}
+use Rattle.build_names.specs.Faults.{Diagnostic}
 use Rattle.build_expressions.specs.Constants.{constant_faults}
 use Rattle.build_expressions.specs.Scope.{visible}
 use Rattle.build_expressions.specs.declared.scope.Constant.{Constant}
-use Rattle.build_scopes.specs.Spaces.{seen_in}
-use Rattle.build_synonyms.specs.Synonyms.{AreConstants}
-use Rattle.build_synonyms.specs.declared.synonym.Synonym.{Synonym}
+use Rattle.build_names.specs.Spaces.{seen_in}
+use Rattle.build_constants.specs.SynonymsSynonyms.{AreConstants}
+use Rattle.build_constants.specs.declared.synonyms.synonym.Synonym.{Synonym}
 use Rattle.sdl_tree.specs.Views.{expr_value}
 
 -- the synonym of a row, with what is seen in the scope that it stands in

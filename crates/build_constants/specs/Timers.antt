@@ -1,6 +1,6 @@
 -- For how many ticks the timers of a process are set where no time is told (Z.102: timer).
 use Rattle.std.specs.Prelude.{ℤ, List, [], Option, None, Some}
-use Rattle.build_faults.specs.Faults.{Diagnostic}
+use Rattle.build_names.specs.Faults.{Diagnostic}
 use Rattle.build_expressions.specs.Constants.{constant_faults, constant_in}
 use Rattle.build_expressions.specs.Scope.{Scope}
 use Rattle.build_expressions.specs.declared.scope.Constant.{Constant}

@@ -1,6 +1,6 @@
 -- What the variables of a process begin with (Z.102: variable definition).
 use Rattle.std.specs.Prelude.{List, [], Option, None, Some, option_map}
-use Rattle.build_faults.specs.Faults.{Diagnostic}
+use Rattle.build_names.specs.Faults.{Diagnostic}
 use Rattle.build_expressions.specs.Constants.{constant_faults, constant_in}
 use Rattle.build_expressions.specs.Scope.{Scope}
 use Rattle.build_expressions.specs.declared.scope.Constant.{Constant}

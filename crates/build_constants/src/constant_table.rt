@@ -4,18 +4,17 @@ ghost use Rattle.std.specs.Prelude.{◌≡◌, IfOk};
 ghost use Rattle.build_definitions.specs.Definitions.{rows_of};
 ghost use Rattle.build_constants.specs.ConstantTable.{all_counts, all_durations, all_initials, constant_table_faults};
 ghost use Rattle.build_constants.specs.Synonyms.{AreSynonymConstants};
-ghost use Rattle.build_faults.specs.Faults.{Notes};
+ghost use Rattle.build_names.specs.Faults.{Notes};
 
 use crate::counts::InstanceCounts;
 use crate::durations::durations_of;
 use crate::initials::initials_of;
 use crate::limit::note_limit;
 use crate::process_counts::counts_of;
-use crate::synonyms::constants_of;
-use build_definitions::Definitions;
+use crate::settled_synonyms::constants_of;
+use build_definitions::{Definitions, SymbolTable};
 use build_expressions::Constant;
-use build_faults::Faults;
-use build_names::SymbolTable;
+use build_names::Faults;
 use std::alloc::{AllocError, Global};
 
 /// The constants to which the constant expressions of a specification come.

@@ -2,14 +2,14 @@
 
 ghost use Rattle.std.specs.Prelude.{◌≡◌, ◌||◌, Some, option_map, IfOk, OnOk};
 ghost use Rattle.build_constants.specs.Counts.{accepted, allows_none, are_misfit, counts_faults, counts_in, exceeds, is_above, is_negative, maximum_in, number_part, part_faults, part_in, with_maximum, with_parts};
-ghost use Rattle.build_faults.specs.Faults.{Notes, fault_if, mark_word};
-ghost use Rattle.build_faults.specs.declared.fault.Rule.TheVariants.{BadCount};
+ghost use Rattle.build_names.specs.Faults.{Notes, fault_if, mark_word};
+ghost use Rattle.build_names.specs.declared.faults.fault.Rule.TheVariants.{BadCount};
 ghost use Rattle.build_expressions.specs.Scope.{scope_of};
 ghost use Rattle.sdl_tree.specs.Views.{bound_value, counts_value, expr_value};
 ghost use Rattle.sdl_tree.specs.declared.mark.Mark.TheVariants as mark;
 
 use build_expressions::{Constant, Scope, constant};
-use build_faults::{Faults, Rule, Token};
+use build_names::{Faults, Rule, Token};
 use sdl_system::{Sort, number_of};
 use sdl_tree::{Bound, Counts, Expression, Mark, Spelling};
 use std::alloc::{AllocError, Global};

@@ -4,15 +4,14 @@ ghost use Rattle.std.specs.Prelude.{◌≡◌, flat_map, option_map, IfOk};
 ghost use Rattle.build_definitions.specs.Seen.{kind_seen, signal_seen};
 ghost use Rattle.build_definitions.specs.Definitions.{rows_of};
 ghost use Rattle.build_constants.specs.ConstantTable.{all_durations, duration_at, duration_faults_at, duration_of};
-ghost use Rattle.build_faults.specs.Faults.{Notes};
+ghost use Rattle.build_names.specs.Faults.{Notes};
 ghost use Rattle.sdl_tree.specs.Views.{expr_value};
 
 use crate::scope::scope_at;
 use crate::timers::default_duration;
-use build_definitions::{Definitions, SignalEntry, SignalKind};
+use build_definitions::{Definitions, SignalEntry, SignalKind, SymbolTable};
 use build_expressions::Constant;
-use build_faults::Faults;
-use build_names::SymbolTable;
+use build_names::Faults;
 use sdl_tree::Expression;
 use std::alloc::{AllocError, Global};
 

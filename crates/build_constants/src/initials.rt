@@ -4,14 +4,13 @@ ghost use Rattle.std.specs.Prelude.{◌≡◌, flat_map, IfOk};
 ghost use Rattle.build_definitions.specs.Seen.{value_seen};
 ghost use Rattle.build_definitions.specs.Definitions.{rows_of};
 ghost use Rattle.build_constants.specs.ConstantTable.{all_initials, initial_at, initial_faults_at, sort_of_entry};
-ghost use Rattle.build_faults.specs.Faults.{Notes};
+ghost use Rattle.build_names.specs.Faults.{Notes};
 
 use crate::scope::scope_at;
 use crate::variables::initial_value;
-use build_definitions::{Definitions, ValueName};
+use build_definitions::{Definitions, SymbolTable, ValueName};
 use build_expressions::{Constant, ValueEntry};
-use build_faults::Faults;
-use build_names::SymbolTable;
+use build_names::Faults;
 use sdl_system::Sort;
 use std::alloc::{AllocError, Global};
 

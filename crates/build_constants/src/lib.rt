@@ -17,6 +17,7 @@ pub mod laws;
 mod limit;
 mod process_counts;
 mod scope;
+mod settled_synonyms;
 mod synonyms;
 mod timers;
 mod variables;

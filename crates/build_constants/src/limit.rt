@@ -3,11 +3,11 @@
 ghost use Rattle.std.specs.Prelude.{◌≡◌, pos, false, int_lt, map};
 ghost use Rattle.build_definitions.specs.Seen.{process_seen};
 ghost use Rattle.build_constants.specs.Limit.{limit_faults, taken_by};
-ghost use Rattle.build_faults.specs.Faults.{Notes};
+ghost use Rattle.build_names.specs.Faults.{Notes};
 
 use crate::counts::InstanceCounts;
 use build_definitions::ProcessEntry;
-use build_faults::{Faults, Rule, Token};
+use build_names::{Faults, Rule, Token};
 
 /// The most instances that there may be at the start.
 const MOST_INSTANCES: i64 = 1_000;

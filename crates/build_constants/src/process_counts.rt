@@ -4,14 +4,13 @@ ghost use Rattle.std.specs.Prelude.{◌≡◌, flat_map, IfOk};
 ghost use Rattle.build_definitions.specs.Seen.{process_seen};
 ghost use Rattle.build_definitions.specs.Definitions.{rows_of};
 ghost use Rattle.build_constants.specs.ConstantTable.{all_counts, counts_at, counts_faults_at};
-ghost use Rattle.build_faults.specs.Faults.{Notes};
+ghost use Rattle.build_names.specs.Faults.{Notes};
 
 use crate::counts::{InstanceCounts, instance_counts};
 use crate::scope::scope_at;
-use build_definitions::{Definitions, ProcessEntry};
+use build_definitions::{Definitions, ProcessEntry, SymbolTable};
 use build_expressions::Constant;
-use build_faults::Faults;
-use build_names::SymbolTable;
+use build_names::Faults;
 use std::alloc::{AllocError, Global};
 
 /// The numbers of instances of each process; None where a rule is broken in them, which is noted.

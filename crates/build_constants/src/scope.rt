@@ -4,9 +4,9 @@ ghost use Rattle.std.specs.Prelude.{◌≡◌};
 ghost use Rattle.build_constants.specs.Scopes.{scope_at};
 ghost use Rattle.build_expressions.specs.Scope.{scope_of};
 
+use build_definitions::SymbolTable;
 use build_expressions::{Constant, Scope};
-use build_names::SymbolTable;
-use build_scopes::ScopePath;
+use build_names::ScopePath;
 
 /// Gives the names that are seen in the scopes of this path, with these constants of the synonyms.
 pub fn scope_at<'a, 's, 't>(

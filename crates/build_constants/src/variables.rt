@@ -2,12 +2,12 @@
 
 ghost use Rattle.std.specs.Prelude.{◌≡◌, option_map, IfOk, OnOk};
 ghost use Rattle.build_constants.specs.Variables.{initial_faults, initial_in};
-ghost use Rattle.build_faults.specs.Faults.{Notes};
+ghost use Rattle.build_names.specs.Faults.{Notes};
 ghost use Rattle.build_expressions.specs.Scope.{scope_of};
 ghost use Rattle.sdl_tree.specs.Views.{expr_value};
 
 use build_expressions::{Constant, Scope, constant};
-use build_faults::Faults;
+use build_names::Faults;
 use sdl_system::Sort;
 use sdl_tree::Expression;
 use std::alloc::{AllocError, Global};

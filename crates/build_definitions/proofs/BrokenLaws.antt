@@ -4,10 +4,10 @@ use Rattle.build_definitions.specs.Broken.{IsUnknownSort, NamesNoSort, NamesSort
 use Rattle.build_definitions.specs.Broken as way
 use Rattle.build_definitions.specs.Parts.{OfBlock, OfChannel, OfConnection, OfParameters, OfProcess, OfSignalList, OfSignalSet, OfSignals, OfSynonyms, OfTimers, OfVariables, Part, all_sort_faults, parts_in, placed_sort_faults, signal_sort_faults, sort_faults, synonym_sort_faults, timer_sort_faults}
 use Rattle.build_definitions.specs.Sorts.{sort_at, unknown_sort}
-use Rattle.build_faults.proofs.FaultLemmas.{each-if, each-of, in-each, in-if}
-use Rattle.build_faults.specs.FaultLaws.{Each, In}
-use Rattle.build_faults.specs.Faults.{Diagnostic, diagnostic_at}
-use Rattle.build_faults.specs.declared.fault.Rule.TheVariants.{Unknown}
+use Rattle.build_names.proofs.FaultLemmas.{each-if, each-of, in-each, in-if}
+use Rattle.build_names.specs.FaultLaws.{Each, In}
+use Rattle.build_names.specs.Faults.{Diagnostic, diagnostic_at}
+use Rattle.build_names.specs.declared.faults.fault.Rule.TheVariants.{Unknown}
 use Rattle.build_expressions.proofs.ListedLaws.{each-weaker}
 use Rattle.sdl_system.specs.declared.sort.Sort.{Sort}
 use Rattle.sdl_tree.specs.Tree.{Tree}

@@ -1,2 +1,4 @@
 pub mod BrokenLaws
+pub mod EntryLemmas
 pub mod ListLemmas
+pub mod SymbolsBrokenLaws

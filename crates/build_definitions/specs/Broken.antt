@@ -2,9 +2,9 @@
 use Rattle.std.specs.Prelude.{◌≡◌, List, None}
 use Rattle.build_definitions.specs.Parts.{OfParameters, OfSignals, OfSynonyms, OfTimers, OfVariables, Part, Placed, all_sort_faults, parts_in}
 use Rattle.build_definitions.specs.Sorts.{sort_at}
-use Rattle.build_faults.specs.FaultLaws.{Each, In}
-use Rattle.build_faults.specs.Faults.{Diagnostic, diagnostic_at}
-use Rattle.build_faults.specs.declared.fault.Rule.TheVariants.{Unknown}
+use Rattle.build_names.specs.FaultLaws.{Each, In}
+use Rattle.build_names.specs.Faults.{Diagnostic, diagnostic_at}
+use Rattle.build_names.specs.declared.faults.fault.Rule.TheVariants.{Unknown}
 use Rattle.sdl_tree.specs.Tree.{ParameterGroup, SignalDefinition, SynonymDefinition, TimerDefinition, Tree, VariableGroup}
 use Rattle.sdl_tree.specs.Words.{Spot}
 

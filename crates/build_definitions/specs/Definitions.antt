@@ -4,9 +4,9 @@ use Rattle.build_definitions.specs.Parts.{Placed}
 use Rattle.build_definitions.specs.Rows.{AgentRow, ChannelRow, ConnectionRow, LabelRow, ProcessRow, SignalListRow, SignalRow, SignalSetRow, StateRow, SynonymRow, ValueRow, placed_agents, placed_blocks, placed_channels, placed_connections, placed_labels, placed_processes, placed_signal_lists, placed_signal_sets, placed_signals, placed_states, placed_synonyms, value_rows}
 use Rattle.build_definitions.specs.Seen.{agent_seen, block_seen, channel_seen, connection_seen, label_seen, process_seen, signal_list_seen, signal_seen, signal_set_seen, state_seen, synonym_seen, value_seen}
 use Rattle.build_definitions.specs.declared.definitions.Definitions.{Definitions}
-use Rattle.build_scopes.specs.declared.scope.ScopeId.{ScopeId}
-use Rattle.build_scopes.specs.declared.scope.ScopeId.TheVariants as scope
-use Rattle.build_scopes.specs.declared.scope.ScopePath.{ScopePath}
+use Rattle.build_names.specs.declared.scopes.scope.ScopeId.{ScopeId}
+use Rattle.build_names.specs.declared.scopes.scope.ScopeId.TheVariants as scope
+use Rattle.build_names.specs.declared.scopes.scope.ScopePath.{ScopePath}
 use Rattle.sdl_system.specs.declared.id.BlockId.{BlockId}
 use Rattle.sdl_tree.specs.Tree.{BlockDefinition}
 

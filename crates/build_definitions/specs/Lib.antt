@@ -1,7 +1,11 @@
 pub mod Broken
 pub mod Definitions
+pub mod Entries
+pub mod Meanings
 pub mod Parts
 pub mod Rows
 pub mod Seen
 pub mod Sorts
+pub mod Spaces
+pub mod SymbolsBroken
 pub mod Views

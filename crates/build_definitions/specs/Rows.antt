@@ -4,11 +4,11 @@ use Rattle.build_definitions.specs.Parts.{Part, OfBlock, OfProcess, OfChannel, O
 use Rattle.build_definitions.specs.Sorts.{sort_at}
 use Rattle.build_definitions.specs.declared.entries.Agent.{Agent}
 use Rattle.build_definitions.specs.declared.entries.Agent.TheVariants as agent
-use Rattle.build_labels.specs.Labels.{process_labels}
-use Rattle.build_labels.specs.States.{different, state_names}
+use Rattle.build_names.specs.Labels.{process_labels}
+use Rattle.build_names.specs.States.{different, state_names}
 use Rattle.build_expressions.specs.declared.scope.ValueEntry.{ValueEntry}
 use Rattle.build_expressions.specs.declared.scope.ValueEntry.TheVariants as entry
-use Rattle.build_scopes.specs.declared.scope.ScopeId.{ScopeId}
+use Rattle.build_names.specs.declared.scopes.scope.ScopeId.{ScopeId}
 use Rattle.sdl_system.specs.declared.id.LabelId.{LabelId}
 use Rattle.sdl_system.specs.declared.id.ProcessId.{ProcessId}
 use Rattle.sdl_system.specs.declared.id.StateId.{StateId}

@@ -1,8 +1,8 @@
 -- The names of sorts (Z.104: predefined sorts).
 use Rattle.std.specs.Prelude.{ℕ, List, Option, None, Some, codes, flat_map, is_some, not, if◌then◌else◌}
 use Rattle.std.specs.Str.{bytes_eq}
-use Rattle.build_faults.specs.Faults.{Diagnostic, fault_if}
-use Rattle.build_faults.specs.declared.fault.Rule.TheVariants.{Unknown}
+use Rattle.build_names.specs.Faults.{Diagnostic, fault_if}
+use Rattle.build_names.specs.declared.faults.fault.Rule.TheVariants.{Unknown}
 use Rattle.sdl_system.specs.declared.sort.Sort.{Sort}
 use Rattle.sdl_system.specs.declared.sort.Sort.TheVariants.{Boolean, Integer, Natural, Pid, Time, Duration}
 use Rattle.sdl_tree.specs.Words.{Spot}

@@ -11,7 +11,7 @@ use crate::enter::enter;
 use crate::entries::{Agent, AgentEntry, BlockEntry, ProcessEntry};
 use crate::part::{Part, Placed};
 use crate::sorts::sort_at;
-use build_scopes::ScopeId;
+use build_names::ScopeId;
 use sdl_system::Sort;
 use sdl_tree::{FormalParameters, ParameterGroup, ProcessDefinition};
 use std::alloc::{AllocError, Global};

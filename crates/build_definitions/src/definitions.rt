@@ -5,7 +5,7 @@ ghost use Rattle.build_definitions.specs.Parts.{all_sort_faults, parts_in};
 ghost use Rattle.build_definitions.specs.Seen.{process_seen};
 ghost use Rattle.build_definitions.specs.Definitions.{block_of, block_round, path_of, rows_in, rows_of};
 ghost use Rattle.build_definitions.specs.Views.{parts_listed};
-ghost use Rattle.build_faults.specs.Faults.{Notes};
+ghost use Rattle.build_names.specs.Faults.{Notes};
 ghost use Rattle.sdl_tree.specs.Views.{tree_value};
 
 use crate::entries::{
@@ -16,8 +16,7 @@ use crate::groups::{AgentTables, ChannelTables, PlaceTables, SignalTables, Value
 use crate::part::Placed;
 use crate::sorts::note_in_parts;
 use crate::walk::parts_in;
-use build_faults::Faults;
-use build_scopes::{ScopeId, ScopePath};
+use build_names::{Faults, ScopeId, ScopePath};
 use sdl_system::{BlockId, ProcessId};
 use sdl_tree::Tree;
 use std::alloc::{AllocError, Global};

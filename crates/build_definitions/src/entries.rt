@@ -1,7 +1,7 @@
 //! The entries of the tables: what one definition of a specification is, with the scope that it stands in.
 
 use build_expressions::ValueEntry;
-use build_scopes::ScopeId;
+use build_names::ScopeId;
 use sdl_system::{BlockId, LabelId, ProcessId, Sort, StateId};
 use sdl_tree::{
     BlockDefinition, ChannelConnection, ChannelDefinition, Expression, Name, ProcessDefinition,

@@ -18,13 +18,15 @@ mod part;
 mod places;
 mod signals;
 mod sorts;
+mod symbols;
 mod values;
 mod walk;
 
 pub use definitions::Definitions;
 pub use entries::{
-    Agent, AgentEntry, BlockEntry, ChannelEntry, ChannelId, ConnectionEntry, LabelEntry,
-    ProcessEntry, SignalEntry, SignalKind, SignalListEntry, SignalListId, SignalSetEntry,
-    StateEntry, SynonymEntry, ValueName,
+    Agent, AgentEntry, BlockEntry, ChannelEntry, ChannelId, ConnectionEntry, ProcessEntry,
+    SignalEntry, SignalKind, SignalListEntry, SignalListId, SignalSetEntry, SynonymEntry,
+    ValueName,
 };
 pub use number::next_number;
+pub use symbols::SymbolTable;

@@ -1,6 +1,6 @@
 //! The definitions of a specification, each with the scope that it stands in.
 
-use build_scopes::ScopeId;
+use build_names::ScopeId;
 use sdl_system::{BlockId, ProcessId};
 use sdl_tree::{
     BlockDefinition, ChannelConnection, ChannelDefinition, ParameterGroup, ProcessDefinition,

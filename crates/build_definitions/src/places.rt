@@ -4,15 +4,15 @@ ghost use Rattle.std.specs.Prelude.{◌≡◌, ◌++◌, map, OnOk};
 ghost use Rattle.build_definitions.specs.Rows.{label_rows, placed_labels, placed_states, state_rows};
 ghost use Rattle.build_definitions.specs.Seen.{label_seen, state_seen};
 ghost use Rattle.build_definitions.specs.Views.{placed_value};
-ghost use Rattle.build_labels.specs.Labels.{names_listed, process_labels};
-ghost use Rattle.build_labels.specs.States.{different, state_names};
+ghost use Rattle.build_names.specs.Labels.{names_listed, process_labels};
+ghost use Rattle.build_names.specs.States.{different, state_names};
 ghost use Rattle.sdl_tree.specs.Views.{process_value};
 
 use crate::enter::enter;
 use crate::entries::{LabelEntry, StateEntry};
 use crate::number::next_number;
 use crate::part::{Part, Placed};
-use build_labels::{labels_of, states_of};
+use build_names::{labels_of, states_of};
 use sdl_system::{LabelId, ProcessId, StateId};
 use sdl_tree::{Name, ProcessDefinition};
 use std::alloc::{AllocError, Global};

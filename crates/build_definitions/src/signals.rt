@@ -10,7 +10,7 @@ use crate::enter::enter;
 use crate::entries::{SignalEntry, SignalKind};
 use crate::part::{Part, Placed};
 use crate::sorts::sorts_at;
-use build_scopes::ScopeId;
+use build_names::ScopeId;
 use sdl_tree::{Expression, SignalDefinition, TimerDefinition};
 use std::alloc::{AllocError, Global};
 

@@ -4,12 +4,12 @@ ghost use Rattle.std.specs.Prelude.{◌≡◌, flat_map, map, IfOk};
 ghost use Rattle.build_definitions.specs.Parts.{placed_sort_faults, signal_sort_faults, sort_faults, synonym_sort_faults, timer_sort_faults};
 ghost use Rattle.build_definitions.specs.Sorts.{sort_at, sort_named, unknown_sort, unknown_sorts};
 ghost use Rattle.build_definitions.specs.Views.{part_value, parts_listed};
-ghost use Rattle.build_faults.specs.Faults.{Notes};
+ghost use Rattle.build_names.specs.Faults.{Notes};
 ghost use Rattle.sdl_tree.specs.Views.{signal_value, sort_value, sorts_value, synonym_value, timer_value};
 
 use crate::enter::enter;
 use crate::part::{Part, Placed};
-use build_faults::{Faults, Rule, Token};
+use build_names::{Faults, Rule, Token};
 use sdl_system::Sort;
 use sdl_tree::{SignalDefinition, SortName, SynonymDefinition, TimerDefinition};
 use std::alloc::{AllocError, Global};

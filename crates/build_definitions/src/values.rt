@@ -14,7 +14,7 @@ use crate::part::{Part, Placed};
 use crate::signals::expression_in;
 use crate::sorts::sort_at;
 use build_expressions::{SynonymId, ValueEntry};
-use build_scopes::ScopeId;
+use build_names::ScopeId;
 use sdl_system::{Sort, VariableId};
 use sdl_tree::{Expression, Name, SynonymDefinition};
 use std::alloc::{AllocError, Global};

@@ -9,7 +9,7 @@ ghost use Rattle.sdl_tree.specs.Views.{block_part_value, block_value, definition
 use crate::enter::enter;
 use crate::number::next_number;
 use crate::part::{Part, Placed};
-use build_scopes::ScopeId;
+use build_names::ScopeId;
 use sdl_system::{BlockId, ProcessId};
 use sdl_tree::{
     BlockDefinition, BlockPart, Definition, FormalParameters, LocalDefinition, ParameterGroup,

@@ -1,20 +1,20 @@
 -- What is noted of a constant expression is broken in it, and the other way round.
 use Rattle.std.proofs.Common.{◌≡◌, ℤ, pos, negsuc, Bool, true, false, [], Option, None, Some, is_none, option_and_then, if◌then◌else◌, refl, sym, ap, subst}
 use Rattle.port_values.specs.declared.value.Value.{Value}
-use Rattle.build_faults.proofs.FaultLemmas.{each-both, each-if, in-if, in-left, in-right}
-use Rattle.build_faults.specs.FaultLaws.{Each, In}
-use Rattle.build_faults.specs.Faults.{Diagnostic, fault_if, diagnostic_at}
-use Rattle.build_faults.specs.declared.fault.Rule.TheVariants.{BadCount}
+use Rattle.build_names.proofs.FaultLemmas.{each-both, each-if, in-if, in-left, in-right}
+use Rattle.build_names.specs.FaultLaws.{Each, In}
+use Rattle.build_names.specs.Faults.{Diagnostic, fault_if, diagnostic_at}
+use Rattle.build_names.specs.declared.faults.fault.Rule.TheVariants.{BadCount}
 use Rattle.build_expressions.specs.Broken.{IsBrokenAt, IsBrokenConstant, LacksValue, TakesKind}
 use Rattle.build_expressions.specs.Broken as broken
 use Rattle.build_expressions.specs.Constants.{constant_faults, counted_faults, is_miscounted, value_of}
-use Rattle.build_operators.specs.OperandSorts.{fits}
+use Rattle.build_expressions.specs.OperandSorts.{fits}
 use Rattle.build_expressions.specs.Misused.{place_faults}
 use Rattle.build_expressions.specs.Scope.{Scope}
 use Rattle.build_expressions.specs.Typing.{Typed, is_taken, taken_in, typed_in}
 use Rattle.build_expressions.specs.Words.{first_word}
 use Rattle.build_expressions.specs.declared.context.Context.TheVariants.{Constant}
-use Rattle.build_operators.specs.declared.operand_sort.OperandSort.{OperandSort}
+use Rattle.build_expressions.specs.declared.operand_sort.OperandSort.{OperandSort}
 use Rattle.build_expressions.proofs.BrokenLaws.{broken-listed-at}
 use Rattle.build_expressions.proofs.ListedLaws.{each-weaker, listed-broken-at}
 use Rattle.sdl_system.specs.Operation.{number_of}

@@ -2,14 +2,14 @@
 use Rattle.std.proofs.Common.{◌≡◌, ◌∙◌, ◌+◌, ◌++◌, ◌==◌, not, Bool, true, false, List, [], ◌∷◌, Option, None, Some, flat_map, length, map, is_none, if◌then◌else◌, refl, sym, ap, subst}
 use Rattle.std.proofs.lemmas.Bool.{eqb-true, eqb-false}
 use Rattle.std.proofs.lemmas.List.{append_assoc, length-append, length-map}
-use Rattle.build_faults.proofs.FaultLemmas.{each-both, each-if, each-of}
-use Rattle.build_faults.specs.FaultLaws.{Each}
-use Rattle.build_faults.specs.Faults.{Diagnostic, diagnostic_at, mark_word}
-use Rattle.build_faults.specs.declared.fault.Rule.TheVariants.{Sort}
+use Rattle.build_names.proofs.FaultLemmas.{each-both, each-if, each-of}
+use Rattle.build_names.specs.FaultLaws.{Each}
+use Rattle.build_names.specs.Faults.{Diagnostic, diagnostic_at, mark_word}
+use Rattle.build_names.specs.declared.faults.fault.Rule.TheVariants.{Sort}
 use Rattle.build_expressions.specs.Broken.{BreaksPlaces, InLinks, InValues, IsBroken, IsBrokenAt, IsBrokenIn, IsNoTimer, IsOperation, TimerMeaning, Within, append_links}
 use Rattle.build_expressions.specs.Broken as broken
 use Rattle.build_expressions.specs.Contexts.{allows_instance, allows_word}
-use Rattle.build_operators.specs.OperandSorts.{fits, result_of, unary_result_of}
+use Rattle.build_expressions.specs.OperandSorts.{fits, result_of, unary_result_of}
 use Rattle.build_expressions.specs.Misused.{active_faults, binary_faults, expression_faults, fault_of_place, links_faults, list_faults, misplaced, name_faults, place_faults, places_faults, timer_faults, unary_faults, values_faults}
 use Rattle.build_expressions.specs.Scope.{Scope, SignalMeaning, signal, timer, signal_in, value_in}
 use Rattle.build_expressions.specs.Typing.{Typed, argument_in, arguments_in, binary_typed, chain_typed, typed_in}

@@ -2,8 +2,8 @@
 use Rattle.std.proofs.Common.{◌≡◌, ◌∙◌, ℕ, ◌++◌, Bool, true, false, cond, List, [], ◌∷◌, Option, Some, option_map, refl, ap, sym}
 use Rattle.std.specs.Option.{option_or}
 use Rattle.std.specs.Str.{bytes_eq}
-use Rattle.build_scopes.specs.Names.{first_of, first_outward}
-use Rattle.build_scopes.proofs.NameLemmas.{lookup-append}
+use Rattle.build_names.specs.Names.{first_of, first_outward}
+use Rattle.build_names.proofs.NameLemmas.{lookup-append}
 use Rattle.build_expressions.specs.Scope.{meaning}
 
 -- what it does in the innermost scope is what its first entry does

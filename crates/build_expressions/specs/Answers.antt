@@ -1,18 +1,18 @@
 -- The answers of a decision (Z.102: decision): constants that can be compared with the value of its question.
 use Rattle.std.specs.Prelude.{◌++◌, Bool, true, false, List, Option, None, Some, is_none, is_some, option_map, if◌then◌else◌, not}
 use Rattle.port_values.specs.declared.value.Value.{Value}
-use Rattle.build_faults.specs.Faults.{Diagnostic, fault_if, mark_word}
-use Rattle.build_faults.specs.declared.fault.Rule.TheVariants as broken
+use Rattle.build_names.specs.Faults.{Diagnostic, fault_if, mark_word}
+use Rattle.build_names.specs.declared.faults.fault.Rule.TheVariants as broken
 use Rattle.build_expressions.specs.Constants.{counted, counted_faults}
-use Rattle.build_operators.specs.OperandSorts.{result_of}
+use Rattle.build_expressions.specs.OperandSorts.{result_of}
 use Rattle.build_expressions.specs.Misused.{expression_faults}
 use Rattle.build_expressions.specs.Partial.{both}
 use Rattle.build_expressions.specs.Scope.{Scope}
 use Rattle.build_expressions.specs.Typing.{Typed, typed_in}
 use Rattle.build_expressions.specs.Words.{first_word}
 use Rattle.build_expressions.specs.declared.context.Context.TheVariants as context
-use Rattle.build_operators.specs.declared.operand_sort.OperandSort.{OperandSort}
-use Rattle.build_operators.specs.declared.operand_sort.OperandSort.TheVariants as kind
+use Rattle.build_expressions.specs.declared.operand_sort.OperandSort.{OperandSort}
+use Rattle.build_expressions.specs.declared.operand_sort.OperandSort.TheVariants as kind
 use Rattle.build_expressions.specs.declared.scope.Constant.{Constant}
 use Rattle.build_expressions.specs.declared.scope.Constant.TheVariants as constants
 use Rattle.sdl_system.specs.declared.answer.Answer as answers

@@ -1,21 +1,21 @@
 -- When a rule is broken in an expression, and at which word: said of the parts of the expression, and not of what is
 -- noted.
 use Rattle.std.specs.Prelude.{◌≡◌, ◌++◌, ℕ, negsuc, Bool, true, false, List, ◌∷◌, Option, None, Some, length, option_and_then}
-use Rattle.build_faults.specs.FaultLaws.{Each, In}
-use Rattle.build_faults.specs.Faults.{Diagnostic, diagnostic_at, mark_word}
-use Rattle.build_faults.specs.declared.fault.Rule.TheVariants.{Unknown, Sort, BadCount}
+use Rattle.build_names.specs.FaultLaws.{Each, In}
+use Rattle.build_names.specs.Faults.{Diagnostic, diagnostic_at, mark_word}
+use Rattle.build_names.specs.declared.faults.fault.Rule.TheVariants.{Unknown, Sort, BadCount}
 use Rattle.port_values.specs.declared.item.SignalId.{SignalId}
 use Rattle.port_values.specs.declared.value.Value.{Value}
 use Rattle.build_expressions.specs.Constants.{constant_faults, value_of}
 use Rattle.build_expressions.specs.Contexts.{allows_instance, allows_word}
-use Rattle.build_operators.specs.OperandSorts.{fits, result_of, unary_result_of}
+use Rattle.build_expressions.specs.OperandSorts.{fits, result_of, unary_result_of}
 use Rattle.build_expressions.specs.Misused.{expression_faults, list_faults, place_faults}
 use Rattle.build_expressions.specs.Scope.{Scope, SignalMeaning, signal, timer, signal_in, value_in}
 use Rattle.build_expressions.specs.Typing.{Typed, typed_in}
 use Rattle.build_expressions.specs.Words.{first_word}
 use Rattle.build_expressions.specs.declared.context.Context.{Context}
 use Rattle.build_expressions.specs.declared.context.Context.TheVariants.{Constant}
-use Rattle.build_operators.specs.declared.operand_sort.OperandSort.{OperandSort}
+use Rattle.build_expressions.specs.declared.operand_sort.OperandSort.{OperandSort}
 use Rattle.build_expressions.specs.declared.scope.ValueMeaning.TheVariants as meant
 use Rattle.sdl_system.specs.Operation.{number_of}
 use Rattle.sdl_system.specs.declared.id.VariableId.{VariableId}

@@ -2,8 +2,8 @@
 use Rattle.std.specs.Prelude.{◌++◌, Bool, true, false, List, [], Option, None, Some, Result, Ok, Err, is_none, option_and_then, if◌then◌else◌}
 use Rattle.std.specs.Option.{unwrap_or}
 use Rattle.port_values.specs.declared.value.Value.{Value}
-use Rattle.build_faults.specs.Faults.{Diagnostic, fault_if}
-use Rattle.build_faults.specs.declared.fault.Rule.TheVariants.{BadCount}
+use Rattle.build_names.specs.Faults.{Diagnostic, fault_if}
+use Rattle.build_names.specs.declared.faults.fault.Rule.TheVariants.{BadCount}
 use Rattle.build_expressions.specs.Misused.{place_faults}
 use Rattle.build_expressions.specs.Scope.{Scope}
 use Rattle.build_expressions.specs.Typing.{Typed, taken_in, typed_in}

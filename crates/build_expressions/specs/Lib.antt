@@ -3,6 +3,7 @@ pub mod Broken
 pub mod Constants
 pub mod Contexts
 pub mod Misused
+pub mod OperandSorts
 pub mod Partial
 pub mod Resolved
 pub mod Scope

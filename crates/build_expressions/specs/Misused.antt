@@ -1,9 +1,9 @@
 -- The faults of an expression: the rules that it breaks, each at the word where it does (Z.104: expressions).
 use Rattle.std.specs.Prelude.{◌++◌, ◌==◌, not, Bool, false, List, [], ◌∷◌, Option, None, Some, flat_map, is_none, length, map, if◌then◌else◌}
-use Rattle.build_faults.specs.Faults.{Diagnostic, diagnostic_at, fault_if, mark_word}
-use Rattle.build_faults.specs.declared.fault.Rule.TheVariants.{Unknown, Sort}
+use Rattle.build_names.specs.Faults.{Diagnostic, diagnostic_at, fault_if, mark_word}
+use Rattle.build_names.specs.declared.faults.fault.Rule.TheVariants.{Unknown, Sort}
 use Rattle.build_expressions.specs.Contexts.{allows_instance, allows_word}
-use Rattle.build_operators.specs.OperandSorts.{fits, result_of, unary_result_of}
+use Rattle.build_expressions.specs.OperandSorts.{fits, result_of, unary_result_of}
 use Rattle.build_expressions.specs.Scope.{Scope, SignalMeaning, signal, timer, signal_in, value_in}
 use Rattle.build_expressions.specs.Typing.{Argument, Typed, argument_in, arguments_in, binary_typed, typed_in}
 use Rattle.build_expressions.specs.Words.{first_word}

@@ -1,6 +1,6 @@
 -- What the code keeps of expressions that are resolved.
 use Rattle.std.specs.Prelude.{map, option_map}
-use Rattle.build_faults.specs.Faults.{token_word}
+use Rattle.build_names.specs.Faults.{token_word}
 use Rattle.build_expressions.specs.Typing as typing
 use Rattle.build_expressions.specs.declared.arguments.Argument.{Argument}
 use Rattle.build_expressions.specs.declared.left.Left.{Left}

@@ -3,8 +3,8 @@
 use Rattle.std.specs.Prelude.{◌++◌, ℕ, Bool, List, Option, map, slice_get}
 use Rattle.std.specs.Option.{unwrap_or}
 use Rattle.port_values.specs.declared.item.SignalId.{SignalId}
-use Rattle.build_scopes.specs.Names.{first_of, names_in}
-use Rattle.build_scopes.specs.declared.names.Outward.{Outward}
+use Rattle.build_names.specs.Names.{first_of, names_in}
+use Rattle.build_names.specs.declared.scopes.names.Outward.{Outward}
 use Rattle.build_expressions.specs.declared.scope.AgentMeaning as agents
 use Rattle.build_expressions.specs.declared.scope.AgentMeaning.TheVariants as agent
 use Rattle.build_expressions.specs.declared.scope.Scope as scopes

@@ -6,15 +6,15 @@ use Rattle.port_values.specs.declared.item.SignalId.{SignalId}
 use Rattle.port_values.specs.declared.pid.Pid.TheVariants.{Null}
 use Rattle.port_values.specs.declared.value.Value.TheVariants as value
 use Rattle.build_expressions.specs.Contexts.{allows_instance, allows_word}
-use Rattle.build_operators.specs.OperandSorts.{fits, kind_of, result_of, unary_result_of}
+use Rattle.build_expressions.specs.OperandSorts.{fits, kind_of, result_of, unary_result_of}
 use Rattle.build_expressions.specs.Partial.{all_some, both}
 use Rattle.build_expressions.specs.Scope.{Scope, SignalMeaning, signal, timer, signal_in, value_in}
 use Rattle.build_expressions.specs.Words.{first_word}
 use Rattle.build_expressions.specs.declared.context.Context.{Context}
-use Rattle.build_operators.specs.declared.operand_sort.OperandSort.{OperandSort}
-use Rattle.build_operators.specs.declared.operand_sort.OperandSort.TheVariants.{Free, Time, Boolean, Pid}
-use Rattle.build_operators.specs.declared.operator.TypedOperation.{TypedOperation}
-use Rattle.build_operators.specs.declared.operator.TypedUnaryOperation.{TypedUnaryOperation}
+use Rattle.build_expressions.specs.declared.operand_sort.OperandSort.{OperandSort}
+use Rattle.build_expressions.specs.declared.operand_sort.OperandSort.TheVariants.{Free, Time, Boolean, Pid}
+use Rattle.build_expressions.specs.declared.operator.TypedOperation.{TypedOperation}
+use Rattle.build_expressions.specs.declared.operator.TypedUnaryOperation.{TypedUnaryOperation}
 use Rattle.build_expressions.specs.declared.scope.Constant.{Constant}
 use Rattle.build_expressions.specs.declared.scope.Constant.TheVariants as constants
 use Rattle.build_expressions.specs.declared.scope.ValueMeaning.{ValueMeaning}

@@ -1,5 +1,5 @@
 -- The word with which an expression begins.
-use Rattle.build_faults.specs.Faults.{mark_word}
+use Rattle.build_names.specs.Faults.{mark_word}
 use Rattle.sdl_tree.specs.Spells.Expressions.{unary_mark, value_mark}
 use Rattle.sdl_tree.specs.Tree.{Expr, Numeral, Named, Keyword, Active, Paren, Unary, Chain}
 use Rattle.sdl_tree.specs.Words.{Spot}

@@ -1,21 +1,22 @@
 //! The answers of a decision.
 
 ghost use Rattle.std.specs.Prelude.{◌≡◌, None, option_map, IfOk, OnOk};
-ghost use Rattle.build_faults.specs.Faults.{Notes, fault_if, token_word};
+ghost use Rattle.build_names.specs.Faults.{Notes, fault_if, token_word};
 ghost use Rattle.build_expressions.specs.Answers.{answer_faults, answer_in, answer_value, answer_value_faults, comparable_in, compared_faults, comparison_for, has_order, is_incomparable, known, order_for};
 ghost use Rattle.build_expressions.specs.Constants.{counted};
-ghost use Rattle.build_faults.specs.declared.fault.Rule.TheVariants.{Sort};
+ghost use Rattle.build_names.specs.declared.faults.fault.Rule.TheVariants.{Sort};
 ghost use Rattle.build_expressions.specs.Resolved.{typed_of};
 ghost use Rattle.build_expressions.specs.Scope.{scope_of};
 ghost use Rattle.sdl_tree.specs.Views.{answer_value as answer_tree, expr_value};
 
 use crate::constants::counted;
 use crate::context::Context;
+use crate::operand_sort::OperandSort;
+use crate::operator::result_of;
 use crate::scope::{Constant, Scope};
 use crate::typed::Typed;
 use crate::typing::{first_token, resolve_in};
-use build_faults::{Faults, Token};
-use build_operators::{OperandSort, result_of};
+use build_names::{Faults, Token};
 use port_values::Value;
 use sdl_system::Comparison;
 use sdl_tree::{Answer, Expression, Operator};
@@ -46,7 +47,7 @@ pub fn resolve_answer<'t>(
         Answer::Range { first, last } => {
             let has_order = has_order(question);
             if !has_order {
-                faults.note(build_faults::Rule::Sort, first_token(first));
+                faults.note(build_names::Rule::Sort, first_token(first));
             }
             let first = resolve_value(alloc, scope, question, first, faults)?;
             let last = resolve_value(alloc, scope, question, last, faults)?;
@@ -65,7 +66,7 @@ pub fn resolve_answer<'t>(
             let comparison = comparison_for(question, *operator);
             if comparison.is_none() {
                 faults.note(
-                    build_faults::Rule::Sort,
+                    build_names::Rule::Sort,
                     Token::of_mark(operator.mark(), *word),
                 );
             }
@@ -129,7 +130,7 @@ fn comparable<'t>(
     if is_comparable {
         Some(typed)
     } else {
-        faults.note(build_faults::Rule::Sort, token);
+        faults.note(build_names::Rule::Sort, token);
         None
     }
 }

@@ -1,7 +1,7 @@
 //! Values in a list, each for a place of a sort.
 
 ghost use Rattle.std.specs.Prelude.{◌≡◌, ◌&&◌, ◌||◌, IfOk, None, Some, map, option_map};
-ghost use Rattle.build_faults.specs.Faults.{Notes, token_word};
+ghost use Rattle.build_names.specs.Faults.{Notes, token_word};
 ghost use Rattle.build_expressions.specs.Misused.{fault_of_place, places_faults};
 ghost use Rattle.build_expressions.specs.Partial.{and_last};
 ghost use Rattle.build_expressions.specs.Resolved.{argument_of, typed_of};
@@ -10,7 +10,7 @@ ghost use Rattle.sdl_system.specs.Term.{term_of};
 ghost use Rattle.sdl_tree.specs.Views.{name_value};
 
 use crate::typed::Typed;
-use build_faults::{Faults, Rule, Token};
+use build_names::{Faults, Rule, Token};
 use sdl_system::{Expression, Sort};
 use sdl_tree::Name;
 use std::alloc::{AllocError, Global};

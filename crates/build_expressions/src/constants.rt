@@ -1,8 +1,8 @@
 //! Constant expressions.
 
 ghost use Rattle.std.specs.Prelude.{◌≡◌, option_and_then, option_map, IfOk, OnOk};
-ghost use Rattle.build_faults.specs.Faults.{Notes, fault_if, token_word};
-ghost use Rattle.build_faults.specs.declared.fault.Rule.TheVariants.{BadCount};
+ghost use Rattle.build_names.specs.Faults.{Notes, fault_if, token_word};
+ghost use Rattle.build_names.specs.declared.faults.fault.Rule.TheVariants.{BadCount};
 ghost use Rattle.build_expressions.specs.Constants.{binary_value, constant_faults, constant_in, counted, counted_faults, given, is_miscounted, unary_value, value_of, with_value};
 ghost use Rattle.build_expressions.specs.Resolved.{typed_of};
 ghost use Rattle.build_expressions.specs.Scope.{scope_of};
@@ -14,7 +14,7 @@ use crate::context::Context;
 use crate::scope::{Constant, Scope};
 use crate::typed::Typed;
 use crate::typing::{first_token, resolve_in};
-use build_faults::{Faults, Rule, Token};
+use build_names::{Faults, Rule, Token};
 use port_values::Value;
 use sdl_system::{Chain, Failure, Link, Operation, Sort, UnaryOperation, in_sort};
 use sdl_tree::Expression;

@@ -1,7 +1,7 @@
 //! Expressions at places of the text that want a sort.
 
 ghost use Rattle.std.specs.Prelude.{◌≡◌, Some, map, option_map, IfOk, OnOk};
-ghost use Rattle.build_faults.specs.Faults.{Notes};
+ghost use Rattle.build_names.specs.Faults.{Notes};
 ghost use Rattle.build_expressions.specs.Misused.{expression_faults, list_faults, place_faults};
 ghost use Rattle.build_expressions.specs.Resolved.{typed_of};
 ghost use Rattle.build_expressions.specs.Scope.{scope_of};
@@ -16,7 +16,7 @@ use crate::context::Context;
 use crate::scope::Scope;
 use crate::typed::Typed;
 use crate::typing::{first_token, resolve_each, resolve_in};
-use build_faults::Faults;
+use build_names::Faults;
 use sdl_system::Sort;
 use sdl_tree::{Expression, Name};
 use std::alloc::{AllocError, Global};

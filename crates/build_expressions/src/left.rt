@@ -5,8 +5,9 @@ ghost use Rattle.build_expressions.specs.Partial.{both};
 ghost use Rattle.build_expressions.specs.Resolved.{operands_term};
 ghost use Rattle.sdl_system.specs.Term.{binary, term_of};
 
+use crate::operand_sort::OperandSort;
+use crate::operator::TypedOperation;
 use crate::typed::Typed;
-use build_operators::{OperandSort, TypedOperation};
 use sdl_system::{Chain, Expression, Link, Operation};
 use std::alloc::{AllocError, Global};
 

@@ -4,8 +4,9 @@ ghost use Rattle.std.specs.Prelude.{◌≡◌, Some, IfOk, option_map};
 ghost use Rattle.sdl_system.specs.Term.{term_of, unary};
 
 use crate::context::Context;
+use crate::operand_sort::OperandSort;
+use crate::operator::TypedUnaryOperation;
 use crate::scope::{Constant, ValueMeaning};
-use build_operators::{OperandSort, TypedUnaryOperation};
 use port_values::{Pid, Value};
 use sdl_system::{Expression, PidExpression, Sort, UnaryOperation};
 use sdl_tree::KeywordValue;

@@ -2,7 +2,7 @@
 
 ghost use Rattle.std.specs.Prelude.{◌≡◌, ◌++◌, None, Some, flat_map, map, option_map, if◌then◌else◌, IfOk, OnOk};
 ghost use Rattle.build_expressions.specs.Contexts.{allows_word};
-ghost use Rattle.build_faults.specs.Faults.{Notes, token_word};
+ghost use Rattle.build_names.specs.Faults.{Notes, token_word};
 ghost use Rattle.build_expressions.specs.Misused.{active_faults, binary_faults, expression_faults, name_faults, timer_faults, unary_faults, word_faults};
 ghost use Rattle.build_expressions.specs.Resolved.{argument_of, left_of, typed_of};
 ghost use Rattle.build_expressions.specs.Scope.{scope_of, signal_in, value_in};
@@ -13,10 +13,11 @@ ghost use Rattle.sdl_tree.specs.Views.{chain_value, expr_value, name_value};
 use crate::arguments::{Argument, any_refused, expressions, place_all};
 use crate::context::Context;
 use crate::left::Left;
+use crate::operand_sort::OperandSort;
+use crate::operator::{result_of, unary_result_of};
 use crate::scope::{Scope, SignalMeaning, ValueMeaning};
 use crate::typed::Typed;
-use build_faults::{Faults, Token};
-use build_operators::{OperandSort, result_of, unary_result_of};
+use build_names::{Faults, Token};
 use port_values::{SignalId, Value};
 use sdl_tree::{
     Chain, Expression, KeywordValue, Link, Mark, Name, Operator, Spelling, UnaryOperator,
@@ -171,13 +172,13 @@ fn resolve_name<'t>(
         (name_faults context (name_value name.now) (value_in (scope_of scope.now) (name_value name.now).text)) }
 {
     let Some(meaning) = scope.value(&name.text) else {
-        faults.note(build_faults::Rule::Unknown, Token::of_name(name));
+        faults.note(build_names::Rule::Unknown, Token::of_name(name));
         return None;
     };
     if let ValueMeaning::Variable { .. } = meaning
         && !context.allows_instance()
     {
-        faults.note(build_faults::Rule::Sort, Token::of_name(name));
+        faults.note(build_names::Rule::Sort, Token::of_name(name));
     }
     Typed::of_name(context, meaning)
 }
@@ -194,7 +195,7 @@ fn resolve_word<'t>(
     if context.allows_word(value) {
         Some(Typed::of_word(value))
     } else {
-        faults.note(build_faults::Rule::Sort, Token::of_mark(value.mark(), word));
+        faults.note(build_names::Rule::Sort, Token::of_mark(value.mark(), word));
         None
     }
 }
@@ -218,7 +219,7 @@ fn resolve_unary<'t>(
         Some(operation) => Ok(Some(operand.with(alloc, operation)?)),
         None => {
             faults.note(
-                build_faults::Rule::Sort,
+                build_names::Rule::Sort,
                 Token::of_mark(operator.mark(), word),
             );
             Ok(None)
@@ -254,7 +255,7 @@ fn join<'t>(
         Some(operation) => Ok(Some(left.join(operation, right)?)),
         None => {
             faults.note(
-                build_faults::Rule::Sort,
+                build_names::Rule::Sort,
                 Token::of_mark(operator.mark(), word),
             );
             Ok(None)
@@ -275,7 +276,7 @@ fn note_active<'t>(context: Context, word: Spelling, faults: &mut Faults<'t>)
     ensures { Notes faults.old faults.new (active_faults context word) }
 {
     if !context.allows_instance() {
-        faults.note(build_faults::Rule::Sort, Token::of_mark(Mark::Active, word));
+        faults.note(build_names::Rule::Sort, Token::of_mark(Mark::Active, word));
     }
 }
 
@@ -294,7 +295,7 @@ fn resolve_timer<'t>(
         (map argument_of arguments.entry.items))) }
 {
     let Some(SignalMeaning::Timer { number, sorts, .. }) = scope.signal(&timer.text) else {
-        faults.note(build_faults::Rule::Unknown, Token::of_name(timer));
+        faults.note(build_names::Rule::Unknown, Token::of_name(timer));
         return Ok(None);
     };
     let are_taken = place_all(timer, sorts, &arguments, faults);

@@ -7,13 +7,13 @@ use Rattle.std.proofs.lemmas.List.Sums.{fold-append}
 use Rattle.std.proofs.lemmas.Option.{same_Some, slice_get_past}
 use Rattle.sdl_tree.specs.Tree.{ProcessDefinition, Tree}
 use Rattle.sdl_tree.specs.Words.{Spot}
-use Rattle.build_faults.specs.declared.fault.Rule.TheVariants.{Limit}
+use Rattle.build_names.specs.declared.faults.fault.Rule.TheVariants.{Limit}
 use Rattle.build_limits.specs.Broken.{AtProcess, IsLimit, IsNewBehind, PassesLimit, StandsBehind, processes, declared, statements, sorts, parameters, states}
-use Rattle.build_faults.specs.Faults.{Diagnostic, diagnostic_at, diagnostic_word, limit_at, fault_at}
-use Rattle.build_faults.specs.FaultLaws.{Each, In}
+use Rattle.build_names.specs.Faults.{Diagnostic, diagnostic_at, diagnostic_word, limit_at, fault_at}
+use Rattle.build_names.specs.FaultLaws.{Each, In}
 use Rattle.build_limits.specs.Limits.{Declared, declared_faults, declared_in, declared_name, limit_faults, parameter_names, process_faults, process_name, processes_in, statements_in}
-use Rattle.build_labels.specs.States.{different, is_same_text, state_names, with_new}
-use Rattle.build_faults.proofs.FaultLemmas.{each-both, each-of, in-each, in-left, in-right}
+use Rattle.build_names.specs.States.{different, is_same_text, state_names, with_new}
+use Rattle.build_names.proofs.FaultLemmas.{each-both, each-of, in-each, in-left, in-right}
 
 -- ---- elements behind others
 

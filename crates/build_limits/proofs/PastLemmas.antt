@@ -4,7 +4,7 @@ use Rattle.std.specs.Borrow.{Bor}
 use Rattle.std.specs.Slice.{IsItemAt}
 use Rattle.std.proofs.lemmas.Option.{slice_get-get_or, slice_get-map, slice_get_past}
 use Rattle.sdl_tree.specs.Words.{Spot}
-use Rattle.build_faults.specs.Faults.{Diagnostic, limit_at, fault_at, least_of}
+use Rattle.build_names.specs.Faults.{Diagnostic, limit_at, fault_at, least_of}
 
 item-some : {X : Type 0} (xs : List X) (i : ℕ) (x : Bor X) → IsItemAt xs i (Some x) → slice_get xs i ≡ Some x.now
 item-some xs i x h = slice_get-get_or xs i x.now h.3.0 ∙ ap Some (sym (h.4 (omega arith) x.now))

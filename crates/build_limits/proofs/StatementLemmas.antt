@@ -11,7 +11,7 @@ use Rattle.sdl_tree.specs.Tree as tree
 use Rattle.sdl_tree.specs.Words.{Spot}
 use Rattle.sdl_tree.specs.Views.{ending_value, transition_value, statement_value, action_value, answer_part_value}
 use Rattle.sdl_tree.proofs.ViewLemmas.{steps_value, decision_value, answered_value}
-use Rattle.build_faults.specs.Faults.{mark_word}
+use Rattle.build_names.specs.Faults.{mark_word}
 use Rattle.build_limits.specs.Limits.{transition_statements, actions_statements, action_statements, parts_statements, otherwise_statements, ending_statements}
 
 pub steps_statements : (t : Transition) → transition_statements (transition_value t)

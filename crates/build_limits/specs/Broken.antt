@@ -3,11 +3,11 @@ use Rattle.std.specs.Prelude.{◌≡◌, ◌++◌, ℕ, false, List, ◌∷◌, 
 use Rattle.std.specs.List.{list_any}
 use Rattle.sdl_tree.specs.Tree.{ProcessDefinition, Tree}
 use Rattle.sdl_tree.specs.Words.{Spot}
-use Rattle.build_faults.specs.declared.fault.Rule.TheVariants.{Limit}
-use Rattle.build_faults.specs.Faults.{Diagnostic, diagnostic_word}
-use Rattle.build_faults.specs.FaultLaws.{Each, In}
+use Rattle.build_names.specs.declared.faults.fault.Rule.TheVariants.{Limit}
+use Rattle.build_names.specs.Faults.{Diagnostic, diagnostic_word}
+use Rattle.build_names.specs.FaultLaws.{Each, In}
 use Rattle.build_limits.specs.Limits.{Declared, declared_in, limit_faults, parameter_names, processes_in, statements_in}
-use Rattle.build_labels.specs.States.{different, is_same_text, state_names}
+use Rattle.build_names.specs.States.{different, is_same_text, state_names}
 
 -- the word stands in the list behind so many others
 pub record StandsBehind (most : ℕ) (words : List Spot) (word : Spot) : Type 0 where

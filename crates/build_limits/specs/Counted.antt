@@ -1,7 +1,7 @@
 -- Words that are counted against a limit.
 use Rattle.std.specs.Prelude.{◌≡◌, ℕ, zero, suc, List, Option, None, Some, fold}
 use Rattle.sdl_tree.specs.Words.{Spot}
-use Rattle.build_faults.specs.Faults.{token_word}
+use Rattle.build_names.specs.Faults.{token_word}
 use Rattle.build_limits.specs.declared.limits.count.Count.{Count}
 use Rattle.build_limits.specs.declared.limits.count.Count.TheVariants as count
 

@@ -3,8 +3,8 @@ use Rattle.std.specs.Prelude.{◌++◌, List, [], ◌∷◌, Option, None, Some,
 use Rattle.sdl_tree.specs.Tree.{Ending, Join, Next, Stop, Terminator, Transition, Steps, Actions, NoAction, AndAction, Action, Task, Output, Set, Reset, Create, Decision, Parts, NoPart, AndPart, Otherwise, NoElse, Else, Stimulus, InputPart, PriorityInput, SavePart, ContinuousSignal, BodyPart, StatePart, FreeAction, SignalDefinition, TimerDefinition, ParameterGroup, FormalParameters, LocalDefinition, LocalSignals, LocalSignalList, LocalSynonyms, LocalSignalSet, Variables, Timers, ProcessDefinition, Definition, Signals, SignalList, Synonyms, Channel, Process, BlockPart, InBlock, Connect, SystemDefinition, InSystem, Block, Tree}
 use Rattle.sdl_tree.specs.Words.{Spot}
 use Rattle.sdl_tree.specs.declared.mark.Mark.TheVariants as mark
-use Rattle.build_faults.specs.Faults.{Diagnostic, fault_at, mark_word}
-use Rattle.build_labels.specs.States.{different, state_names}
+use Rattle.build_names.specs.Faults.{Diagnostic, fault_at, mark_word}
+use Rattle.build_names.specs.States.{different, state_names}
 
 -- ---- definitions, each list in the order of the text
 

@@ -2,15 +2,14 @@
 
 ghost use Rattle.std.specs.Prelude.{◌≡◌, ◌++◌, flat_map, map, option_map, IfOk, OnOk};
 ghost use Rattle.sdl_tree.specs.Views.{block_part_value, definition_value, fpar_value, local_value, process_value, signal_value, sorts_value, system_definition_value, timer_value, tree_value};
-ghost use Rattle.build_faults.specs.Faults.{Notes, fault_at};
+ghost use Rattle.build_names.specs.Faults.{Notes, fault_at};
 ghost use Rattle.build_limits.specs.Limits.{block_definitions, declared_faults, declared_name, declared_of, definitions_in, limit_faults, local_declared, of_signal, of_timer, parameter_names, process_faults, process_name, process_statements, processes_of, system_definitions};
 ghost use Rattle.build_limits.specs.Listed.{declared_listed, definitions_listed, processes_listed};
-ghost use Rattle.build_labels.specs.States.{different, state_names};
+ghost use Rattle.build_names.specs.States.{different, state_names};
 
 mod count;
 
-use build_faults::{Faults, Rule, Token};
-use build_labels::states_of;
+use build_names::{Faults, Rule, Token, states_of};
 use count::Count;
 use sdl_tree::{
     BlockDefinition, BlockPart, Definition, FormalParameters, LocalDefinition, Name,

@@ -1,2 +1,6 @@
-pub mod BrokenLaws
-pub mod EntryLemmas
+pub mod FaultLemmas
+pub mod LabelLemmas
+pub mod NameLemmas
+pub mod OrderLemmas
+pub mod RowLemmas
+pub mod StateLemmas

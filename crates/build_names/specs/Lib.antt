@@ -1,4 +1,6 @@
-pub mod Broken
-pub mod Entries
-pub mod Meanings
+pub mod FaultLaws
+pub mod Faults
+pub mod Labels
+pub mod Names
 pub mod Spaces
+pub mod States

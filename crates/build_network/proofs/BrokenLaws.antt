@@ -3,7 +3,7 @@ use Rattle.std.proofs.Common.{◌≡◌, ◌∙◌, ◌++◌, ℕ, ◌+◌, true
 use Rattle.std.proofs.lemmas.List.Concat.{flat_map-append}
 use Rattle.build_definitions.specs.Rows.{ChannelRow, ConnectionRow}
 use Rattle.build_definitions.specs.Definitions.{Rows, path_of}
-use Rattle.build_names.specs.declared.symbol_table.SymbolTable.{SymbolTable}
+use Rattle.build_definitions.specs.declared.symbols.symbol_table.SymbolTable.{SymbolTable}
 use Rattle.build_network.specs.Agents.{agent_end, block_names, end_faults}
 use Rattle.build_network.specs.Broken.{HasNumber, IsBroken, IsNoAgent, IsNoItem, IsPathOf}
 use Rattle.build_network.specs.Broken as broken
@@ -14,15 +14,15 @@ use Rattle.build_network.specs.Numbered.{joined, numbered}
 use Rattle.build_network.specs.Paths.{channel_paths, path_faults, second_path, seen_from}
 use Rattle.build_network.specs.Processes.{faults_of, processes_faults, seen_within, set_faults}
 use Rattle.build_network.specs.Seen.{Seen, item_faults, item_in, item_name, items_faults, list_item, seen_at, signal_item}
-use Rattle.build_faults.proofs.FaultLemmas.{in-each, in-if, in-left, in-right}
-use Rattle.build_faults.specs.FaultLaws.{In}
-use Rattle.build_faults.specs.Faults.{Diagnostic, diagnostic_at}
-use Rattle.build_scopes.specs.Names.{first_of}
-use Rattle.build_faults.specs.declared.fault.Rule.TheVariants.{Unknown}
+use Rattle.build_names.proofs.FaultLemmas.{in-each, in-if, in-left, in-right}
+use Rattle.build_names.specs.FaultLaws.{In}
+use Rattle.build_names.specs.Faults.{Diagnostic, diagnostic_at}
+use Rattle.build_names.specs.Names.{first_of}
+use Rattle.build_names.specs.declared.faults.fault.Rule.TheVariants.{Unknown}
 use Rattle.build_expressions.specs.declared.scope.AgentMeaning.TheVariants as agent
-use Rattle.build_scopes.specs.Spaces.{names_of}
-use Rattle.build_scopes.specs.declared.scope.ScopeId.{ScopeId}
-use Rattle.build_scopes.specs.declared.scope.ScopeId.TheVariants as scope
+use Rattle.build_names.specs.Spaces.{names_of}
+use Rattle.build_names.specs.declared.scopes.scope.ScopeId.{ScopeId}
+use Rattle.build_names.specs.declared.scopes.scope.ScopeId.TheVariants as scope
 use Rattle.sdl_tree.specs.Tree.{Agent, ChannelEnd, ChannelPath, LocalSignalSet, SignalListItem}
 use Rattle.sdl_tree.specs.Words.{Spot}
 

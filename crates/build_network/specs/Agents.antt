@@ -1,11 +1,11 @@
 -- What the ends of channels are (Z.101: channel): the environment, or a process or a block of the same scope.
 use Rattle.std.specs.Prelude.{ℕ, List, [], Option, None, Some, is_none}
 use Rattle.build_network.specs.Numbered.{numbered}
-use Rattle.route_network.specs.declared.network.End.{End}
-use Rattle.route_network.specs.declared.network.End.TheVariants as at
-use Rattle.build_faults.specs.Faults.{Diagnostic, fault_if}
-use Rattle.build_scopes.specs.Names.{first_of}
-use Rattle.build_faults.specs.declared.fault.Rule.TheVariants.{Unknown}
+use Rattle.build_routes.specs.declared.network.joined.End.{End}
+use Rattle.build_routes.specs.declared.network.joined.End.TheVariants as at
+use Rattle.build_names.specs.Faults.{Diagnostic, fault_if}
+use Rattle.build_names.specs.Names.{first_of}
+use Rattle.build_names.specs.declared.faults.fault.Rule.TheVariants.{Unknown}
 use Rattle.build_expressions.specs.declared.scope.AgentMeaning.{AgentMeaning}
 use Rattle.build_expressions.specs.declared.scope.AgentMeaning.TheVariants as agent
 use Rattle.sdl_system.specs.declared.id.BlockId.{BlockId}

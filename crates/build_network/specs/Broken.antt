@@ -3,20 +3,20 @@
 use Rattle.std.specs.Prelude.{◌≡◌, ◌⊎◌, ℕ, ◌+◌, List, [], ◌∷◌, None, Some}
 use Rattle.build_definitions.specs.Rows.{ChannelRow, ConnectionRow, ProcessRow, SignalListRow}
 use Rattle.build_definitions.specs.Definitions.{Rows, path_of}
-use Rattle.build_names.specs.declared.symbol_table.SymbolTable.{SymbolTable}
+use Rattle.build_definitions.specs.declared.symbols.symbol_table.SymbolTable.{SymbolTable}
 use Rattle.build_network.specs.Agents.{block_names}
 use Rattle.build_network.specs.Network.{network_faults}
 use Rattle.build_network.specs.Paths.{seen_from}
 use Rattle.build_network.specs.Processes.{seen_within}
 use Rattle.build_network.specs.Seen.{Seen, item_name, seen_at}
-use Rattle.build_faults.specs.FaultLaws.{Each, In}
-use Rattle.build_faults.specs.Faults.{Diagnostic, diagnostic_at}
-use Rattle.build_scopes.specs.Names.{first_of}
-use Rattle.build_faults.specs.declared.fault.Rule.TheVariants.{Unknown}
+use Rattle.build_names.specs.FaultLaws.{Each, In}
+use Rattle.build_names.specs.Faults.{Diagnostic, diagnostic_at}
+use Rattle.build_names.specs.Names.{first_of}
+use Rattle.build_names.specs.declared.faults.fault.Rule.TheVariants.{Unknown}
 use Rattle.build_expressions.specs.declared.scope.AgentMeaning.TheVariants as agent
-use Rattle.build_scopes.specs.Spaces.{names_of}
-use Rattle.build_scopes.specs.declared.scope.ScopeId.{ScopeId}
-use Rattle.build_scopes.specs.declared.scope.ScopeId.TheVariants as scope
+use Rattle.build_names.specs.Spaces.{names_of}
+use Rattle.build_names.specs.declared.scopes.scope.ScopeId.{ScopeId}
+use Rattle.build_names.specs.declared.scopes.scope.ScopeId.TheVariants as scope
 use Rattle.sdl_tree.specs.Tree.{Agent, ChannelDefinition, ChannelPath, ListItem, LocalSignalSet, SignalItem, SignalListItem, SignalSet}
 use Rattle.sdl_tree.specs.Words.{Spot}
 

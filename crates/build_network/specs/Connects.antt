@@ -2,17 +2,17 @@
 use Rattle.std.specs.Prelude.{◌++◌, ℕ, List, [], ◌∷◌, Option, None, Some, flat_map, is_none, slice_get}
 use Rattle.build_definitions.specs.Rows.{ConnectionRow}
 use Rattle.build_definitions.specs.declared.entries.ChannelId.{ChannelId}
-use Rattle.build_names.specs.declared.symbol_table.SymbolTable.{SymbolTable}
+use Rattle.build_definitions.specs.declared.symbols.symbol_table.SymbolTable.{SymbolTable}
 use Rattle.build_network.specs.Seen.{listed}
 use Rattle.build_network.specs.declared.paths.ChannelPaths.{ChannelPaths}
-use Rattle.route_network.specs.declared.network.Connect as routes
-use Rattle.route_network.specs.declared.network.PathId.{PathId}
-use Rattle.build_faults.specs.Faults.{Diagnostic, fault_if}
-use Rattle.build_scopes.specs.Names.{first_of}
-use Rattle.build_faults.specs.declared.fault.Rule.TheVariants.{Unknown}
-use Rattle.build_scopes.specs.Spaces.{names_of}
-use Rattle.build_scopes.specs.declared.scope.ScopeId.{ScopeId}
-use Rattle.build_scopes.specs.declared.scope.ScopeId.TheVariants as scope
+use Rattle.build_routes.specs.declared.network.joined.Connect as routes
+use Rattle.build_routes.specs.declared.network.joined.PathId.{PathId}
+use Rattle.build_names.specs.Faults.{Diagnostic, fault_if}
+use Rattle.build_names.specs.Names.{first_of}
+use Rattle.build_names.specs.declared.faults.fault.Rule.TheVariants.{Unknown}
+use Rattle.build_names.specs.Spaces.{names_of}
+use Rattle.build_names.specs.declared.scopes.scope.ScopeId.{ScopeId}
+use Rattle.build_names.specs.declared.scopes.scope.ScopeId.TheVariants as scope
 use Rattle.sdl_system.specs.declared.id.BlockId.{BlockId}
 use Rattle.sdl_tree.specs.Tree.{Connection}
 use Rattle.sdl_tree.specs.Words.{Spot}

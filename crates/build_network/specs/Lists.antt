@@ -2,9 +2,9 @@
 use Rattle.std.specs.Prelude.{List}
 use Rattle.build_definitions.specs.Rows.{ProcessRow, SignalListRow}
 use Rattle.build_definitions.specs.Definitions.{path_of}
-use Rattle.build_names.specs.declared.symbol_table.SymbolTable.{SymbolTable}
-use Rattle.route_network.specs.declared.list.Item.{Item}
-use Rattle.build_faults.specs.Faults.{Diagnostic}
+use Rattle.build_definitions.specs.declared.symbols.symbol_table.SymbolTable.{SymbolTable}
+use Rattle.build_routes.specs.declared.network.list.Item.{Item}
+use Rattle.build_names.specs.Faults.{Diagnostic}
 use Rattle.build_network.specs.Seen.{items_faults, items_in, seen_at}
 
 abbrev pub list_at : SymbolTable → List ProcessRow → SignalListRow → List Item

@@ -2,21 +2,21 @@
 -- the text, then what each path of a channel carries, then two of each process, what it names and its timers.
 use Rattle.std.specs.Prelude.{◌++◌, ◌==◌, ℕ, ◌+◌, Bool, List, flat_map, length, map}
 use Rattle.build_definitions.specs.Definitions.{Rows}
-use Rattle.build_names.specs.declared.symbol_table.SymbolTable.{SymbolTable}
+use Rattle.build_definitions.specs.declared.symbols.symbol_table.SymbolTable.{SymbolTable}
 use Rattle.build_network.specs.Agents.{block_names}
 use Rattle.build_network.specs.Connects.{Connect, connect_faults, connects_of}
 use Rattle.build_network.specs.Lists.{list_at, list_faults}
 use Rattle.build_network.specs.Numbered.{numbered}
 use Rattle.build_network.specs.Paths.{Placed, carried, channel_paths, numbers_from, path_faults, paths_from}
 use Rattle.build_network.specs.Processes.{process_lists, processes_faults, processes_from}
-use Rattle.route_network.specs.declared.list.Item.{Item}
-use Rattle.route_network.specs.declared.network.Block.{Block}
-use Rattle.route_network.specs.declared.network.ChannelPath.{ChannelPath}
-use Rattle.route_network.specs.declared.network.Process.{Process}
-use Rattle.build_faults.specs.Faults.{Diagnostic}
-use Rattle.build_scopes.specs.Spaces.{names_of}
-use Rattle.build_scopes.specs.declared.scope.ScopeId.{ScopeId}
-use Rattle.build_scopes.specs.declared.scope.ScopeId.TheVariants as scope
+use Rattle.build_routes.specs.declared.network.list.Item.{Item}
+use Rattle.build_routes.specs.declared.network.joined.Block.{Block}
+use Rattle.build_routes.specs.declared.network.joined.ChannelPath.{ChannelPath}
+use Rattle.build_routes.specs.declared.network.joined.Process.{Process}
+use Rattle.build_names.specs.Faults.{Diagnostic}
+use Rattle.build_names.specs.Spaces.{names_of}
+use Rattle.build_names.specs.declared.scopes.scope.ScopeId.{ScopeId}
+use Rattle.build_names.specs.declared.scopes.scope.ScopeId.TheVariants as scope
 use Rattle.sdl_tree.specs.Tree.{BlockDefinition}
 
 -- ---- scopes without any channel

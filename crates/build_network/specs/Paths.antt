@@ -3,21 +3,21 @@ use Rattle.std.specs.Prelude.{◌++◌, ◌&&◌, ℕ, ◌+◌, Bool, List, [], 
 use Rattle.std.specs.Option.{unwrap_or}
 use Rattle.build_definitions.specs.Rows.{ChannelRow}
 use Rattle.build_definitions.specs.Definitions.{path_of as scopes_round}
-use Rattle.build_names.specs.declared.symbol_table.SymbolTable.{SymbolTable}
+use Rattle.build_definitions.specs.declared.symbols.symbol_table.SymbolTable.{SymbolTable}
 use Rattle.build_network.specs.Agents.{end_faults, end_in}
 use Rattle.build_network.specs.Numbered.{numbered}
 use Rattle.build_network.specs.Processes.{scope_of}
 use Rattle.build_network.specs.Seen.{Seen, items_faults, items_in, seen_at}
 use Rattle.build_network.specs.declared.paths.ChannelPaths.{ChannelPaths}
 use Rattle.build_network.specs.declared.paths.PathEntry.{PathEntry}
-use Rattle.route_network.specs.declared.list.Item.{Item}
-use Rattle.route_network.specs.declared.network.ChannelPath as routes
-use Rattle.route_network.specs.declared.network.End.{End}
-use Rattle.route_network.specs.declared.network.End.TheVariants as at
-use Rattle.route_network.specs.declared.network.PathId.{PathId}
-use Rattle.build_faults.specs.Faults.{Diagnostic}
-use Rattle.build_scopes.specs.Spaces.{names_of}
-use Rattle.build_scopes.specs.declared.scope.ScopeId.{ScopeId}
+use Rattle.build_routes.specs.declared.network.list.Item.{Item}
+use Rattle.build_routes.specs.declared.network.joined.ChannelPath as routes
+use Rattle.build_routes.specs.declared.network.joined.End.{End}
+use Rattle.build_routes.specs.declared.network.joined.End.TheVariants as at
+use Rattle.build_routes.specs.declared.network.joined.PathId.{PathId}
+use Rattle.build_names.specs.Faults.{Diagnostic}
+use Rattle.build_names.specs.Spaces.{names_of}
+use Rattle.build_names.specs.declared.scopes.scope.ScopeId.{ScopeId}
 use Rattle.sdl_system.specs.declared.id.BlockId.{BlockId}
 use Rattle.sdl_tree.specs.Tree.{ChannelDefinition, ChannelEnd, ChannelPath, SignalListItem}
 use Rattle.sdl_tree.specs.Views.{path_value}

@@ -1,16 +1,16 @@
 -- The signals that a process names (Z.101: valid input signal set; Z.102: input, save), and its timers.
 use Rattle.std.specs.Prelude.{◌++◌, ℕ, ◌+◌, ◌*◌, List, [], ◌∷◌, flat_map}
 use Rattle.build_definitions.specs.Rows.{ProcessRow}
-use Rattle.build_names.specs.declared.symbol_table.SymbolTable.{SymbolTable}
+use Rattle.build_definitions.specs.declared.symbols.symbol_table.SymbolTable.{SymbolTable}
 use Rattle.build_network.specs.Numbered.{joined, numbered}
 use Rattle.build_network.specs.Seen.{Seen, items_faults, items_in, listed, path_within, seen_at, signal_in, timer_in}
-use Rattle.route_network.specs.declared.list.Item.{Item}
-use Rattle.route_network.specs.declared.network.Process.{Process}
-use Rattle.route_network.specs.declared.network.Scope as networks
-use Rattle.route_network.specs.declared.network.Scope.TheVariants as its
-use Rattle.build_faults.specs.Faults.{Diagnostic}
-use Rattle.build_scopes.specs.declared.scope.ScopeId.{ScopeId}
-use Rattle.build_scopes.specs.declared.scope.ScopeId.TheVariants as scope
+use Rattle.build_routes.specs.declared.network.list.Item.{Item}
+use Rattle.build_routes.specs.declared.network.joined.Process.{Process}
+use Rattle.build_routes.specs.declared.network.joined.Scope as networks
+use Rattle.build_routes.specs.declared.network.joined.Scope.TheVariants as its
+use Rattle.build_names.specs.Faults.{Diagnostic}
+use Rattle.build_names.specs.declared.scopes.scope.ScopeId.{ScopeId}
+use Rattle.build_names.specs.declared.scopes.scope.ScopeId.TheVariants as scope
 use Rattle.sdl_tree.specs.Tree.{BodyPart, StatePart, FreeAction, Input, Inputs, InputList, InputAll, LocalDefinition, LocalSignals, LocalSignalList, LocalSynonyms, LocalSignalSet, Variables, Timers, ProcessDefinition, Saved, SaveList, SaveAll, Stimulus, InputPart, PriorityInput, SavePart, ContinuousSignal, TimerDefinition}
 
 -- ---- inputs and saves

@@ -2,20 +2,20 @@
 use Rattle.std.specs.Prelude.{ℕ, List, [], ◌∷◌, Option, None, Some, flat_map, is_none}
 use Rattle.build_definitions.specs.Definitions.{block_of}
 use Rattle.build_definitions.specs.declared.entries.SignalListId.{SignalListId}
-use Rattle.build_names.specs.declared.symbol_table.SymbolTable.{SymbolTable}
+use Rattle.build_definitions.specs.declared.symbols.symbol_table.SymbolTable.{SymbolTable}
 use Rattle.build_network.specs.declared.seen.Seen as the_seen
-use Rattle.route_network.specs.declared.list.Item.{Item}
-use Rattle.route_network.specs.declared.list.Item.TheVariants as item
-use Rattle.route_network.specs.declared.list.SignalList.{SignalList}
-use Rattle.build_faults.specs.Faults.{Diagnostic, fault_if}
-use Rattle.build_scopes.specs.Names.{first_of}
-use Rattle.build_faults.specs.declared.fault.Rule.TheVariants.{Unknown}
+use Rattle.build_routes.specs.declared.network.list.Item.{Item}
+use Rattle.build_routes.specs.declared.network.list.Item.TheVariants as item
+use Rattle.build_routes.specs.declared.network.list.SignalList.{SignalList}
+use Rattle.build_names.specs.Faults.{Diagnostic, fault_if}
+use Rattle.build_names.specs.Names.{first_of}
+use Rattle.build_names.specs.declared.faults.fault.Rule.TheVariants.{Unknown}
 use Rattle.build_expressions.specs.Scope.{visible}
 use Rattle.build_expressions.specs.declared.scope.SignalMeaning.{SignalMeaning}
 use Rattle.build_expressions.specs.declared.scope.SignalMeaning.TheVariants.{Signal, Timer}
-use Rattle.build_scopes.specs.Spaces.{seen_in}
-use Rattle.build_scopes.specs.declared.scope.ScopeId.{ScopeId}
-use Rattle.build_scopes.specs.declared.scope.ScopePath.{ScopePath}
+use Rattle.build_names.specs.Spaces.{seen_in}
+use Rattle.build_names.specs.declared.scopes.scope.ScopeId.{ScopeId}
+use Rattle.build_names.specs.declared.scopes.scope.ScopePath.{ScopePath}
 use Rattle.sdl_system.specs.declared.id.ProcessId.{ProcessId}
 use Rattle.sdl_tree.specs.Tree.{SignalListItem, SignalItem, ListItem}
 use Rattle.sdl_tree.specs.Words.{Spot}

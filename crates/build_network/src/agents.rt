@@ -3,17 +3,16 @@
 ghost use Rattle.std.specs.Prelude.{◌≡◌, ◌==◌, length, map, IfOk};
 ghost use Rattle.build_definitions.specs.Seen.{block_seen};
 ghost use Rattle.build_network.specs.Agents.{agent_end, block_end, block_names, end_faults, end_in};
-ghost use Rattle.build_faults.specs.Faults.{Notes};
-ghost use Rattle.build_scopes.specs.Names.{first_of, names_in};
-ghost use Rattle.build_scopes.specs.Spaces.{names_of};
+ghost use Rattle.build_names.specs.Faults.{Notes};
+ghost use Rattle.build_names.specs.Names.{first_of, names_in};
+ghost use Rattle.build_names.specs.Spaces.{names_of};
 ghost use Rattle.sdl_tree.specs.Views.{end_value};
 
 use crate::seen::{note_unknown, path_at};
 use build_definitions::BlockEntry;
 use build_expressions::AgentMeaning;
-use build_faults::{Faults, Token};
-use build_scopes::{Names, ScopeId, Spaces};
-use route_network::{End, counted};
+use build_names::{Faults, Names, ScopeId, Spaces, Token};
+use build_routes::{End, counted};
 use sdl_system::BlockId;
 use sdl_tree::ChannelEnd;
 use std::alloc::{AllocError, Global};

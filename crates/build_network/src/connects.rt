@@ -3,18 +3,16 @@
 ghost use Rattle.std.specs.Prelude.{◌≡◌, ◌++◌, flat_map, map, IfOk, OnOk};
 ghost use Rattle.build_definitions.specs.Seen.{connection_seen};
 ghost use Rattle.build_network.specs.Connects.{channel_faults, connect_faults, connect_in, connect_value, connects_of, ids_of, named_paths, numbers_at};
-ghost use Rattle.build_faults.specs.Faults.{Notes};
-ghost use Rattle.build_scopes.specs.Spaces.{names_of};
+ghost use Rattle.build_names.specs.Faults.{Notes};
+ghost use Rattle.build_names.specs.Spaces.{names_of};
 ghost use Rattle.sdl_tree.specs.Views.{connection_value, name_value, names_value};
 
 use crate::agents::get_at;
 use crate::paths::ChannelPaths;
 use crate::seen::note_unknown;
-use build_definitions::{ChannelId, ConnectionEntry};
-use build_faults::{Faults, Token};
-use build_names::SymbolTable;
-use build_scopes::{ScopeId, Spaces};
-use route_network::{Connect, PathId};
+use build_definitions::{ChannelId, ConnectionEntry, SymbolTable};
+use build_names::{Faults, ScopeId, Spaces, Token};
+use build_routes::{Connect, PathId};
 use sdl_system::BlockId;
 use sdl_tree::{ChannelConnection, Name};
 use std::alloc::{AllocError, Global};

@@ -1,5 +1,5 @@
 //! What joins the agents of a specification (Z.101: channel, connection, signal list, valid input signal set): from its
-//! definitions to the network whose paths `route_table` follows, and the names in it that stand for nothing.
+//! definitions to the network whose paths `build_routes` follows, and the names in it that stand for nothing.
 //!
 //! `specs/Seen` says what stands in a list of signals, `specs/Lists` so of the lists that have names, and
 //! `specs/Processes` of what a process inputs, saves or has in its signal sets by name, and of its timers.

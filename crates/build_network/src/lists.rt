@@ -5,13 +5,12 @@ ghost use Rattle.build_definitions.specs.Seen.{signal_list_seen};
 ghost use Rattle.build_definitions.specs.Definitions.{rows_of};
 ghost use Rattle.build_network.specs.Lists.{list_at, list_faults};
 ghost use Rattle.build_network.specs.Seen.{list_items};
-ghost use Rattle.build_faults.specs.Faults.{Notes};
+ghost use Rattle.build_names.specs.Faults.{Notes};
 
 use crate::seen::seen_at;
-use build_definitions::{Definitions, SignalListEntry};
-use build_faults::Faults;
-use build_names::SymbolTable;
-use route_network::{Item, ListId, SignalList, counted};
+use build_definitions::{Definitions, SignalListEntry, SymbolTable};
+use build_names::Faults;
+use build_routes::{Item, ListId, SignalList, counted};
 use std::alloc::{AllocError, Global};
 
 /// Adds a list of these items, and answers its number.

@@ -3,12 +3,12 @@
 ghost use Rattle.std.specs.Prelude.{◌≡◌, ◌++◌, flat_map, map, OnOk};
 ghost use Rattle.build_network.specs.Processes.{input_item, inputs_items, local_timers, named_items, part_items, process_faults, saved_items, set_faults, set_items, stimulus_items, timer_items, timers_items};
 ghost use Rattle.build_network.specs.Seen.{seen_of};
-ghost use Rattle.build_faults.specs.Faults.{Notes};
+ghost use Rattle.build_names.specs.Faults.{Notes};
 ghost use Rattle.sdl_tree.specs.Views.{body_part_value, input_value, inputs_value, local_value, process_value, saved_value, stimulus_value, timer_value};
 
 use crate::seen::{Seen, add_found};
-use build_faults::Faults;
-use route_network::Item;
+use build_names::Faults;
+use build_routes::Item;
 use sdl_tree::{
     BodyPart, Input, Inputs, LocalDefinition, ProcessDefinition, Saved, StatePart, Stimulus,
     TimerDefinition,

@@ -8,19 +8,17 @@ ghost use Rattle.build_network.specs.Connects.{connect_value};
 ghost use Rattle.build_network.specs.Network.{all_paths, blocks_in, has_no_channel, network_connects, network_faults, network_lists, network_paths, network_processes};
 ghost use Rattle.build_network.specs.Seen.{list_items};
 ghost use Rattle.build_network.specs.Paths.{carried, channel_paths, path_faults, paths_from};
-ghost use Rattle.build_faults.specs.Faults.{Notes};
-ghost use Rattle.build_scopes.specs.declared.scope.ScopeId.TheVariants as scope;
+ghost use Rattle.build_names.specs.Faults.{Notes};
+ghost use Rattle.build_names.specs.declared.scopes.scope.ScopeId.TheVariants as scope;
 
 use crate::agents::{block_names, is_empty_at};
 use crate::connects::{all_connects, note_connects};
 use crate::lists::{named_lists, note_lists};
 use crate::paths::{add_paths, all_paths, note_paths};
 use crate::processes::{add_processes, note_processes};
-use build_definitions::{BlockEntry, ChannelEntry, Definitions};
-use build_faults::Faults;
-use build_names::SymbolTable;
-use build_scopes::{Names, ScopeId};
-use route_network::{Block, ChannelPath, Connect, Network, Process, SignalList, counted};
+use build_definitions::{BlockEntry, ChannelEntry, Definitions, SymbolTable};
+use build_names::{Faults, Names, ScopeId};
+use build_routes::{Block, ChannelPath, Connect, Network, Process, SignalList, counted};
 use sdl_system::BlockId;
 use std::alloc::{AllocError, Global};
 

@@ -4,17 +4,15 @@ ghost use Rattle.std.specs.Prelude.{◌≡◌, ◌++◌, ◌+◌, ◌∷◌, [],
 ghost use Rattle.build_definitions.specs.Seen.{channel_seen};
 ghost use Rattle.build_network.specs.Paths.{carried, channel_paths, items_if, numbers_from, numbers_of, path_faults, path_of, paths_from, placed_value, second_number, second_path, seen_from};
 ghost use Rattle.build_network.specs.Seen.{items_faults, list_items};
-ghost use Rattle.build_faults.specs.Faults.{Notes};
+ghost use Rattle.build_names.specs.Faults.{Notes};
 ghost use Rattle.sdl_tree.specs.Views.{path_value};
 
 use crate::agents::{end_in, note_end};
 use crate::processes::scope_of;
 use crate::seen::{path_at, seen_at};
-use build_definitions::ChannelEntry;
-use build_faults::Faults;
-use build_names::SymbolTable;
-use build_scopes::{Names, ScopeId};
-use route_network::{ChannelPath, End, Item, ListId, PathId, SignalList, counted};
+use build_definitions::{ChannelEntry, SymbolTable};
+use build_names::{Faults, Names, ScopeId};
+use build_routes::{ChannelPath, End, Item, ListId, PathId, SignalList, counted};
 use sdl_system::BlockId;
 use sdl_tree::ChannelPath as PathDefinition;
 use std::alloc::{AllocError, Global};

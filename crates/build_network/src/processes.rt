@@ -4,17 +4,15 @@ ghost use Rattle.std.specs.Prelude.{◌≡◌, ◌++◌, ◌+◌, ◌^◌, ◌<�
 ghost use Rattle.build_definitions.specs.Seen.{process_seen};
 ghost use Rattle.build_network.specs.Processes.{faults_of, lists_of, named_items, process_at, process_lists, processes_faults, processes_from, scope_of, timers_items, two_lists};
 ghost use Rattle.build_network.specs.Seen.{list_items, seen_of};
-ghost use Rattle.build_faults.specs.Faults.{Notes};
+ghost use Rattle.build_names.specs.Faults.{Notes};
 ghost use Rattle.sdl_tree.specs.Views.{process_value};
 
 use crate::lists::add_list;
 use crate::mentions::{add_named, add_timers, note_sets};
 use crate::seen::{Seen, path_within, seen_at};
-use build_definitions::ProcessEntry;
-use build_faults::Faults;
-use build_names::SymbolTable;
-use build_scopes::ScopeId;
-use route_network::{Item, Process, Scope, SignalList, counted};
+use build_definitions::{ProcessEntry, SymbolTable};
+use build_names::{Faults, ScopeId};
+use build_routes::{Item, Process, Scope, SignalList, counted};
 use sdl_system::ProcessId;
 use sdl_tree::ProcessDefinition;
 use std::alloc::{AllocError, Global};

@@ -3,17 +3,15 @@
 ghost use Rattle.std.specs.Prelude.{◌≡◌, ◌++◌, [], OnOk};
 ghost use Rattle.build_definitions.specs.Definitions.{block_of, path_of};
 ghost use Rattle.build_network.specs.Seen.{found_item, item_faults, item_in, item_name, items_faults, items_in, list_in, list_item, listed, path_within, seen_at, seen_of, signal_in, signal_item, timer_in, timer_item};
-ghost use Rattle.build_faults.specs.Faults.{Notes, fault_if, token_word};
-ghost use Rattle.build_scopes.specs.Names.{first_of};
-ghost use Rattle.build_faults.specs.declared.fault.Rule.TheVariants.{Unknown};
+ghost use Rattle.build_names.specs.Faults.{Notes, fault_if, token_word};
+ghost use Rattle.build_names.specs.Names.{first_of};
+ghost use Rattle.build_names.specs.declared.faults.fault.Rule.TheVariants.{Unknown};
 ghost use Rattle.sdl_tree.specs.Views.{item_value, items_value, name_value};
 
-use build_definitions::SignalListId;
+use build_definitions::{SignalListId, SymbolTable};
 use build_expressions::SignalMeaning;
-use build_faults::{Faults, Rule, Token};
-use build_names::SymbolTable;
-use build_scopes::{Outward, ScopeId, ScopePath};
-use route_network::{Item, ListId};
+use build_names::{Faults, Outward, Rule, ScopeId, ScopePath, Token};
+use build_routes::{Item, ListId};
 use sdl_system::{BlockId, ProcessId};
 use sdl_tree::{Name, SignalListItem};
 use std::alloc::AllocError;

@@ -1,12 +1,12 @@
 -- Passes one behind another.
 use Rattle.std.proofs.Common.{◌≡◌, ◌∙◌, ◌++◌, ℕ, Bool, List, Option, OnOk, Result, Ok, Err, ap, append_assoc, flat_map}
-use Rattle.build_faults.proofs.FaultLemmas.{both_noted}
-use Rattle.build_faults.specs.Faults.{Diagnostic, least_of}
-use Rattle.build_labels.specs.States.{different}
+use Rattle.build_names.proofs.FaultLemmas.{both_noted}
+use Rattle.build_names.specs.Faults.{Diagnostic, least_of}
+use Rattle.build_names.specs.States.{different}
 use Rattle.build_states.specs.States.{is_named, left_out_faults, named_faults, names_in, process_faults}
 use Rattle.build_states.proofs.ProcessLemmas.{left_out-same}
-use Rattle.build_stimuli.specs.Context.{Context}
-use Rattle.build_stimuli.specs.Reading.{Part, body_faults, process_read}
+use Rattle.build_states.specs.Context.{Context}
+use Rattle.build_states.specs.Reading.{Part, body_faults, process_read}
 use Rattle.sdl_tree.specs.Tree.{ProcessDefinition}
 use Rattle.sdl_tree.specs.Words.{Spot}
 use Rattle.build_process.specs.Faulty.{NotesBody, NotesFlow, flow_faults}

@@ -2,19 +2,19 @@
 use Rattle.std.proofs.Common.{◌≡◌, ◌∙◌, ◌≤◌, ℕ, Bool, All, IfSome, List, [], ◌∷◌, Option, None, Some, length, subst, sym}
 use Rattle.std.specs.List.{AllZip}
 use Rattle.std.proofs.lemmas.List.Elements.{All-cons, All-head, All-nil, All-tail, All-weaker}
-use Rattle.build_transitions.specs.declared.transitions.Transitions.{Transitions}
+use Rattle.build_process.specs.declared.transitions.Transitions.{Transitions}
 use Rattle.build_states.specs.Shared.{IsOfName}
 use Rattle.build_states.specs.States.{Table}
-use Rattle.build_stimuli.specs.Context.{Context}
-use Rattle.build_stimuli.specs.Reading.{body_read}
+use Rattle.build_states.specs.Context.{Context}
+use Rattle.build_states.specs.Reading.{body_read}
 use Rattle.sdl_system.specs.Soundness.{Keeps}
 use Rattle.sdl_system.specs.declared.id.NodeId.{NodeId}
 use Rattle.sdl_system.specs.declared.process.Process.{Process}
 use Rattle.sdl_system.specs.declared.state.StateTable.{StateTable}
-use Rattle.build_state_tables.specs.Agreeing.{AreEnabling}
-use Rattle.build_signal_classes.specs.Linked.{IsTable}
-use Rattle.build_state_tables.proofs.AgreeingLemmas.{table-agrees}
-use Rattle.build_state_tables.proofs.EnablingLemmas.{are-enabling}
+use Rattle.build_tables.specs.Agreeing.{AreEnabling}
+use Rattle.build_tables.specs.Linked.{IsTable}
+use Rattle.build_tables.proofs.AgreeingLemmas.{table-agrees}
+use Rattle.build_tables.proofs.EnablingLemmas.{are-enabling}
 use Rattle.sdl_tree.specs.Tree.{BodyPart}
 use Rattle.build_process.specs.Made.{MadeOf, Said}
 use Rattle.build_process.specs.declared.heading.Heading.{Heading}

@@ -1,22 +1,22 @@
 -- What a process means that is made of what its text says.
 use Rattle.std.proofs.Common.{◌≡◌, ◌∙◌, List, [], ◌∷◌, Option, None, Some, IfSome, ap, length, map, refl, slice_get, subst, sym}
 use Rattle.std.proofs.lemmas.List.{length-map}
-use Rattle.build_transitions.specs.Bodies.{beginning_body}
-use Rattle.build_transitions.specs.Sound.{AreTransitionsOf}
-use Rattle.build_transitions.specs.declared.transitions.Transitions.{Transitions}
-use Rattle.flow_paths.specs.Beginnings.{beginnings}
+use Rattle.build_process.specs.Bodies.{beginning_body}
+use Rattle.build_process.specs.Sound.{AreTransitionsOf}
+use Rattle.build_process.specs.declared.transitions.Transitions.{Transitions}
+use Rattle.build_flow.specs.Beginnings.{beginnings}
 use Rattle.build_states.specs.States.{states_of}
 use Rattle.build_states.specs.Tabled.{meanings_at}
-use Rattle.build_stimuli.specs.Listed.{conditions_listed}
-use Rattle.build_stimuli.specs.Reading.{process_read}
+use Rattle.build_states.specs.Listed.{conditions_listed}
+use Rattle.build_states.specs.Reading.{process_read}
 use Rattle.sdl_system.specs.Behaviour.{Behaviour, Means, variable_meaning}
 use Rattle.sdl_system.specs.Signal.{is_member}
 use Rattle.sdl_system.specs.Table.{IsTableOf}
 use Rattle.sdl_system.specs.Term.{term_of}
 use Rattle.sdl_system.specs.declared.expression.Expression.{Expression}
 use Rattle.sdl_system.specs.declared.process.Process.{Process}
-use Rattle.build_state_tables.specs.Meant.{tables_at}
-use Rattle.build_state_tables.proofs.MeaningLemmas.{states-mean}
+use Rattle.build_tables.specs.Meant.{tables_at}
+use Rattle.build_tables.proofs.MeaningLemmas.{states-mean}
 use Rattle.sdl_tree.specs.Tree.{ProcessDefinition}
 use Rattle.build_process.specs.Made.{IsMade, MadeOf, Said}
 use Rattle.build_process.specs.Meant.{IsBehaviour}

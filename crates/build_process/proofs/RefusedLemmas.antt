@@ -1,17 +1,17 @@
 -- Why there is no process.
 use Rattle.std.proofs.Common.{◌≡◌, ℕ, suc, true, false, All, Contains, IfNone, List, [], ◌∷◌, Option, None, Some, ap, arith, is_some, length, option_map, slice_get, subst}
-use Rattle.build_transitions.specs.Sound.{AreTransitionsOf}
-use Rattle.build_transitions.specs.declared.transitions.Transitions.{Transitions}
-use Rattle.flow_paths.specs.Beginnings.{beginnings}
+use Rattle.build_process.specs.Sound.{AreTransitionsOf}
+use Rattle.build_process.specs.declared.transitions.Transitions.{Transitions}
+use Rattle.build_flow.specs.Beginnings.{beginnings}
 use Rattle.build_states.specs.Shared.{IsOfName}
-use Rattle.build_stimuli.specs.Listed.{conditions_listed}
-use Rattle.build_stimuli.specs.Reading.{process_read}
+use Rattle.build_states.specs.Listed.{conditions_listed}
+use Rattle.build_states.specs.Reading.{process_read}
 use Rattle.sdl_system.specs.Term.{term_of}
 use Rattle.sdl_system.specs.declared.expression.Expression.{Expression}
 use Rattle.sdl_system.specs.declared.id.NodeId.{NodeId}
 use Rattle.sdl_system.specs.declared.process.Process.{Process}
-use Rattle.build_signal_classes.specs.Linked.{Lacks}
-use Rattle.build_signal_classes.proofs.ListLemmas.{contains-at}
+use Rattle.build_tables.specs.Linked.{Lacks}
+use Rattle.build_tables.proofs.ListLemmas.{contains-at}
 use Rattle.sdl_tree.specs.Tree.{ProcessDefinition}
 use Rattle.build_process.specs.Made.{IsMissing, MadeOf, Said, no_condition, no_entry, no_start}
 use Rattle.build_process.specs.Refused as refused

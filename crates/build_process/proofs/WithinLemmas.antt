@@ -3,7 +3,7 @@ use Rattle.std.proofs.Common.{◌≡◌, ◌∙◌, ◌==◌, ◌<◌, ◌≤◌
 use Rattle.std.specs.List.{AllZip}
 use Rattle.std.proofs.lemmas.List.Elements.{All-head, All-tail}
 use Rattle.port_values.specs.declared.item.SignalId.{SignalId}
-use Rattle.build_stimuli.specs.Mentions.{Response}
+use Rattle.build_states.specs.Mentions.{Response}
 use Rattle.build_states.specs.States.{StateMeaning, Table, meaning_of, named_in}
 use Rattle.build_states.specs.Tabled.{meaning_at, meanings_at}
 use Rattle.build_states.proofs.ShareLemmas.{part-mapped}
@@ -11,9 +11,9 @@ use Rattle.sdl_system.specs.State.{named_reaction, same_signal}
 use Rattle.sdl_system.specs.declared.id.NodeId.{NodeId}
 use Rattle.sdl_system.specs.declared.id.TableId.{TableId}
 use Rattle.sdl_system.specs.declared.state.StateTable.{StateTable}
-use Rattle.build_signal_classes.specs.Linked.{IsLinked, IsTable}
-use Rattle.build_state_tables.specs.Meant.{NamesWithin, tables_at}
-use Rattle.build_state_tables.proofs.MeaningLemmas.{below-or-not, head-same, some-same, tail-same}
+use Rattle.build_tables.specs.Linked.{IsLinked, IsTable}
+use Rattle.build_tables.specs.Meant.{NamesWithin, tables_at}
+use Rattle.build_tables.proofs.MeaningLemmas.{below-or-not, head-same, some-same, tail-same}
 use Rattle.sdl_tree.specs.Words.{Spot}
 use Rattle.build_process.specs.Meant.{NamesSignals}
 

@@ -1,11 +1,11 @@
 -- The rules that are broken in the states and transitions of a process.
 use Rattle.std.specs.Prelude.{◌++◌, ℕ, List, Option}
-use Rattle.build_transitions.specs.Bodies.{bodies_faults}
-use Rattle.flow_paths.specs.Beginnings.{beginnings}
-use Rattle.flow_reach.specs.Ends.{ends_faults}
-use Rattle.flow_paths.specs.Reach.{AreReached}
-use Rattle.flow_reach.specs.Stays.{stay_faults}
-use Rattle.build_faults.specs.Faults.{Diagnostic, Notes}
+use Rattle.build_process.specs.Bodies.{bodies_faults}
+use Rattle.build_flow.specs.Beginnings.{beginnings}
+use Rattle.build_flow.specs.Ends.{ends_faults}
+use Rattle.build_flow.specs.Reach.{AreReached}
+use Rattle.build_flow.specs.Stays.{stay_faults}
+use Rattle.build_names.specs.Faults.{Diagnostic, Notes}
 use Rattle.build_states.specs.States.{process_faults}
 use Rattle.sdl_tree.specs.Tree.{ProcessDefinition}
 use Rattle.build_process.specs.ProcessScope.{ProcessScope, for_stimuli, for_transitions}

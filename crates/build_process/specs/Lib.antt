@@ -1,6 +1,11 @@
+pub mod Added
+pub mod Bodies
 pub mod Conditions
 pub mod Faulty
 pub mod Made
 pub mod Meant
+pub mod Numbered
+pub mod Order
 pub mod ProcessScope
 pub mod Refused
+pub mod Sound

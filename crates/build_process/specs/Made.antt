@@ -1,14 +1,14 @@
 -- What a process is made of.
 use Rattle.std.specs.Prelude.{◌≡◌, ℕ, List, Option, None, Some, Contains, map, slice_get}
 use Rattle.std.specs.List.{AllZip}
-use Rattle.build_transitions.specs.declared.transitions.Transitions.{Transitions}
+use Rattle.build_process.specs.declared.transitions.Transitions.{Transitions}
 use Rattle.build_states.specs.States.{Table}
 use Rattle.sdl_system.specs.declared.expression.Expression.{Expression}
 use Rattle.sdl_system.specs.declared.id.NodeId.{NodeId}
 use Rattle.sdl_system.specs.declared.id.TableId.{TableId}
 use Rattle.sdl_system.specs.declared.process.Process.{Process}
-use Rattle.build_signal_classes.specs.Linked.{IsTable}
-use Rattle.build_state_tables.specs.Stated.{SomeLacks, state_value, states_listed}
+use Rattle.build_tables.specs.Linked.{IsTable}
+use Rattle.build_tables.specs.Stated.{SomeLacks, state_value, states_listed}
 use Rattle.sdl_tree.specs.Words.{Spot}
 use Rattle.build_process.specs.declared.heading.Heading.{Heading}
 

@@ -2,14 +2,14 @@
 use Rattle.std.specs.Prelude.{◌≡◌, ◌≤◌, ℕ, [], All, None, Some, map}
 use Rattle.std.specs.List.{AllZip}
 use Rattle.port_values.specs.declared.item.SignalId.{SignalId}
-use Rattle.build_transitions.specs.Bodies.{bodies_of}
-use Rattle.build_transitions.specs.Numbered.{AreNumbered}
-use Rattle.flow_reach.specs.Ends.{ends_faults}
+use Rattle.build_process.specs.Bodies.{bodies_of}
+use Rattle.build_process.specs.Numbered.{AreNumbered}
+use Rattle.build_flow.specs.Ends.{ends_faults}
 use Rattle.build_states.specs.States.{StateMeaning, states_of}
-use Rattle.build_stimuli.specs.Reading.{process_read}
+use Rattle.build_states.specs.Reading.{process_read}
 use Rattle.sdl_system.specs.Behaviour.{Behaviour, variable_meaning}
 use Rattle.sdl_system.specs.Signal.{is_member}
-use Rattle.build_state_tables.specs.Meant.{IsMeaning}
+use Rattle.build_tables.specs.Meant.{IsMeaning}
 use Rattle.sdl_tree.specs.Tree.{ProcessDefinition}
 use Rattle.build_process.specs.ProcessScope.{ProcessScope, for_stimuli, for_transitions}
 use Rattle.build_process.specs.declared.heading.Heading.{Heading}

@@ -3,8 +3,8 @@ use Rattle.std.specs.Prelude.{ℕ, ℤ, Bool, List, Option}
 use Rattle.port_values.specs.declared.item.SignalId.{SignalId}
 use Rattle.build_statements.specs.Contexts as nodes
 use Rattle.build_expressions.specs.Scope.{Scope, meaning, scope_of, visible}
-use Rattle.build_stimuli.specs.Context as stimuli
-use Rattle.build_stimuli.specs.Context.{listed_members, members_of}
+use Rattle.build_states.specs.Context as stimuli
+use Rattle.build_states.specs.Context.{listed_members, members_of}
 use Rattle.sdl_system.specs.declared.id.LabelId.{LabelId}
 use Rattle.sdl_system.specs.declared.id.StateId.{StateId}
 use Rattle.build_process.specs.declared.process_scope.ProcessScope as declared

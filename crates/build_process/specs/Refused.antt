@@ -1,14 +1,14 @@
 -- Why there is no process with a text.
 use Rattle.std.specs.Prelude.{◌≡◌, List, [], None, Some, Contains, length, map}
-use Rattle.build_transitions.specs.Bodies.{bodies_of}
-use Rattle.build_transitions.specs.Numbered.{AreNumbered}
-use Rattle.flow_paths.specs.Beginnings.{beginnings}
-use Rattle.flow_reach.specs.Ends.{ends_faults}
+use Rattle.build_process.specs.Bodies.{bodies_of}
+use Rattle.build_process.specs.Numbered.{AreNumbered}
+use Rattle.build_flow.specs.Beginnings.{beginnings}
+use Rattle.build_flow.specs.Ends.{ends_faults}
 use Rattle.build_states.specs.States.{table_named}
-use Rattle.build_stimuli.specs.Reading.{process_read}
+use Rattle.build_states.specs.Reading.{process_read}
 use Rattle.sdl_system.specs.Body.{Body}
 use Rattle.sdl_system.specs.declared.id.NodeId.{NodeId}
-use Rattle.build_signal_classes.specs.Linked.{Lacks}
+use Rattle.build_tables.specs.Linked.{Lacks}
 use Rattle.sdl_tree.specs.Tree.{ProcessDefinition}
 use Rattle.sdl_tree.specs.Words.{Spot}
 use Rattle.build_process.specs.ProcessScope.{ProcessScope, for_stimuli, for_transitions}

@@ -1,3 +1,10 @@
+//! The transitions of a process: all of its nodes in one table, and the node at which each transition begins (Z.101:
+//! start, input, connection; Z.102: transition).
+//!
+//! `specs/Bodies` has the bodies of a process and the rules that are broken in them. `transitions_of` notes exactly
+//! these, and where no rule on transitions, labels and ends is broken, its nodes are the table of the bodies. Paths
+//! without a terminator are noted by `build_flow`, and labels have the numbers that the caller gives them.
+//!
 //! A process of a system, whole: what its text says, which rules are broken in it, and what its instances are made of
 //! (Z.101: process, state; Z.102: transition).
 //!
@@ -6,11 +13,14 @@
 //! the other. What stands around the process, and what its heading says, the caller gives.
 #![tactic(auto)]
 
+mod added;
 mod condition;
 mod heading;
+pub mod laws;
 mod making;
 mod process;
 mod process_scope;
+mod transitions;
 
 pub use heading::Heading;
 pub use process::make_process;

@@ -7,11 +7,9 @@ ghost use Rattle.build_process.specs.Made.{MadeOf};
 use crate::condition::whole;
 use crate::heading::Heading;
 use crate::process_scope::ProcessScope;
-use build_signal_classes::TableParts;
-use build_state_tables::make_tables;
-use build_states::StateTables;
-use build_stimuli::TransitionId;
-use build_transitions::Transitions;
+use crate::transitions::Transitions;
+use build_states::{StateTables, TransitionId};
+use build_tables::{TableParts, make_tables};
 use sdl_system::{Expression, Process};
 use std::alloc::{AllocError, Global};
 

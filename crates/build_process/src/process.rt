@@ -1,15 +1,15 @@
 //! What the text of a process says, whole.
 
 ghost use Rattle.std.specs.Prelude.{◌≡◌, ◌≤◌, ◌++◌, ℕ, All, List, IfNone, IfOk, IfSome, OnOk, flat_map, length};
-ghost use Rattle.build_transitions.specs.Added.{HasEach};
-ghost use Rattle.build_transitions.specs.Sound.{AreTransitionsOf};
-ghost use Rattle.flow_paths.specs.Beginnings.{beginnings};
-ghost use Rattle.build_faults.specs.Faults.{Notes};
-ghost use Rattle.build_labels.specs.States.{different};
+ghost use Rattle.build_process.specs.Added.{HasEach};
+ghost use Rattle.build_process.specs.Sound.{AreTransitionsOf};
+ghost use Rattle.build_flow.specs.Beginnings.{beginnings};
+ghost use Rattle.build_names.specs.Faults.{Notes};
+ghost use Rattle.build_names.specs.States.{different};
 ghost use Rattle.build_states.specs.States.{is_named, left_out_faults, names_in};
 ghost use Rattle.build_states.specs.Tabled.{is_state, names_listed};
-ghost use Rattle.build_stimuli.specs.Listed.{reading_value};
-ghost use Rattle.build_stimuli.specs.Reading as reading;
+ghost use Rattle.build_states.specs.Listed.{reading_value};
+ghost use Rattle.build_states.specs.Reading as reading;
 ghost use Rattle.sdl_system.specs.Behaviour.{Behaviour, Means};
 ghost use Rattle.sdl_system.specs.Soundness.{Keeps};
 ghost use Rattle.sdl_tree.specs.Views.{process_value};
@@ -22,11 +22,10 @@ ghost use Rattle.build_process.specs.ProcessScope.{for_stimuli, for_transitions,
 use crate::heading::Heading;
 use crate::making::process_of;
 use crate::process_scope::ProcessScope;
-use build_faults::Faults;
-use build_states::{note_left_out, read_states};
-use build_stimuli::{Reading, read_body};
-use build_transitions::{Transitions, transitions_of};
-use flow_ends::{note_ends, note_stays};
+use crate::transitions::{Transitions, transitions_of};
+use build_flow::{note_ends, note_stays};
+use build_names::Faults;
+use build_states::{Reading, note_left_out, read_body, read_states};
 use sdl_system::Process;
 use sdl_tree::ProcessDefinition;
 use std::alloc::{AllocError, Global};

@@ -4,7 +4,7 @@ ghost use Rattle.std.specs.Prelude.{◌≡◌};
 
 use build_definitions::SignalListId;
 use build_expressions::Scope;
-use build_scopes::{Names, Outward};
+use build_names::{Names, Outward};
 use build_states::NamedStates;
 use port_values::SignalId;
 use sdl_system::LabelId;
@@ -30,14 +30,14 @@ pub struct ProcessScope<'a, 's, 't> {
 
 impl<'a, 's, 't> ProcessScope<'a, 's, 't> {
     ghost use Rattle.build_statements.specs.Contexts as nodes;
-    ghost use Rattle.build_stimuli.specs.Context as stimuli;
+    ghost use Rattle.build_states.specs.Context as stimuli;
     ghost use Rattle.build_process.specs.ProcessScope.{for_stimuli, for_transitions, process_scope_of};
 
     /// Gives the meanings of the names that stimuli can use.
-    pub(crate) fn for_stimuli(&self) -> build_stimuli::Context<'a, 's, 't>
+    pub(crate) fn for_stimuli(&self) -> build_states::Context<'a, 's, 't>
         ensures { stimuli.context_of result ≡ for_stimuli (process_scope_of self.now) }
     {
-        build_stimuli::Context {
+        build_states::Context {
             scope: self.scope,
             lists: self.lists,
             members: self.members,

@@ -1,2 +1,14 @@
+pub mod AnswerLaws
+pub mod BrokenLaws
+pub mod BuiltLemmas
+pub mod CountLemmas
+pub mod LaterLemmas
+pub mod LinkLemmas
 pub mod ListLemmas
+pub mod ListedLaws
+pub mod MadeLemmas
+pub mod NamedLemmas
+pub mod PartLemmas
 pub mod StepLemmas
+pub mod TransitionLemmas
+pub mod TreeLemmas

@@ -3,7 +3,7 @@ use Rattle.std.specs.Prelude.{ℕ, ℤ, Bool, false, List, Option, None, slice_g
 use Rattle.std.specs.Option.{unwrap_or}
 use Rattle.port_values.specs.declared.item.SignalId.{SignalId}
 use Rattle.build_statements.specs.declared.context.Context as declared
-use Rattle.build_scopes.specs.Names.{first_of}
+use Rattle.build_names.specs.Names.{first_of}
 use Rattle.build_expressions.specs.Scope.{Scope, scope_of}
 use Rattle.sdl_system.specs.declared.id.LabelId.{LabelId}
 use Rattle.sdl_system.specs.declared.id.StateId.{StateId}

@@ -4,14 +4,14 @@ use Rattle.std.specs.Prelude.{◌++◌, ◌&&◌, not, Bool, true, false, List, 
 use Rattle.port_values.specs.declared.item.SignalId.{SignalId}
 use Rattle.build_statements.specs.Contexts.{Context, is_reaching, label_in, state_in}
 use Rattle.build_statements.specs.Statements.{agent_name, sort_of, target_in}
-use Rattle.build_faults.specs.Faults.{Diagnostic, fault_if, diagnostic_at}
-use Rattle.build_faults.specs.declared.fault.Rule.TheVariants.{NoLabel, NoRoute, NoState, Unknown}
-use Rattle.build_faults.specs.declared.fault.Rule.TheVariants as broken
+use Rattle.build_names.specs.Faults.{Diagnostic, fault_if, diagnostic_at}
+use Rattle.build_names.specs.declared.faults.fault.Rule.TheVariants.{NoLabel, NoRoute, NoState, Unknown}
+use Rattle.build_names.specs.declared.faults.fault.Rule.TheVariants as broken
 use Rattle.build_expressions.specs.Answers.{answer_faults}
 use Rattle.build_expressions.specs.Misused.{expression_faults, list_faults, place_faults}
 use Rattle.build_expressions.specs.Scope.{AgentMeaning, SignalMeaning, agent_in, block, process, signal, signal_in, timer}
 use Rattle.build_expressions.specs.declared.context.Context.TheVariants.{Transition}
-use Rattle.build_operators.specs.declared.operand_sort.OperandSort.{OperandSort}
+use Rattle.build_expressions.specs.declared.operand_sort.OperandSort.{OperandSort}
 use Rattle.sdl_system.specs.declared.sort.Sort.{Sort}
 use Rattle.sdl_system.specs.declared.sort.Sort.TheVariants as sorts
 use Rattle.sdl_tree.specs.Tree as tree

@@ -3,12 +3,12 @@
 ghost use Rattle.std.specs.Prelude.{flat_map, map, OnOk};
 ghost use Rattle.build_statements.specs.Contexts.{context_of};
 ghost use Rattle.build_statements.specs.Faulty.{asked_faults, unknown_faults};
-ghost use Rattle.build_faults.specs.Faults.{Notes};
+ghost use Rattle.build_names.specs.Faults.{Notes};
 ghost use Rattle.sdl_tree.specs.Views.{applied_value, expr_value};
 
 use crate::context::Context;
 use build_expressions::resolve;
-use build_faults::{Faults, Rule, Token};
+use build_names::{Faults, Rule, Token};
 use sdl_tree::{Applied, Expression};
 use std::alloc::{AllocError, Global};
 

@@ -1,7 +1,7 @@
 //! What a transition can name.
 
 use build_expressions::Scope;
-use build_scopes::Names;
+use build_names::Names;
 use port_values::SignalId;
 use sdl_system::{LabelId, StateId};
 

@@ -4,7 +4,7 @@ ghost use Rattle.std.specs.Prelude.{◌≡◌, map, option_and_then, option_map,
 ghost use Rattle.build_statements.specs.Contexts.{context_of};
 ghost use Rattle.build_statements.specs.Faulty.{create_faults};
 ghost use Rattle.build_statements.specs.Statements.{create_in};
-ghost use Rattle.build_faults.specs.Faults.{Notes};
+ghost use Rattle.build_names.specs.Faults.{Notes};
 ghost use Rattle.sdl_system.specs.Body.{create};
 ghost use Rattle.sdl_system.specs.Table.{action_of};
 ghost use Rattle.sdl_system.specs.Term.{term_of};
@@ -13,7 +13,7 @@ ghost use Rattle.sdl_tree.specs.Views.{applied_value};
 use crate::applied::note_unknown;
 use crate::context::Context;
 use build_expressions::{AgentMeaning, resolve_values};
-use build_faults::Faults;
+use build_names::Faults;
 use sdl_system::{Creation, Expression, ProcessId, Statement};
 use sdl_tree::Applied;
 use std::alloc::{AllocError, Global};

@@ -8,15 +8,12 @@
 mod applied;
 mod context;
 mod create;
-pub mod list;
+mod list;
+mod nodes;
 mod output;
 mod task;
 mod terminator;
 mod timer;
 
 pub use context::Context;
-pub use create::resolve_create;
-pub use output::resolve_output;
-pub use task::resolve_task;
-pub use terminator::resolve_terminator;
-pub use timer::{resolve_reset, resolve_set};
+pub use nodes::{NodeTable, add};

@@ -4,14 +4,14 @@ ghost use Rattle.std.specs.Prelude.{◌≡◌, is_none, option_and_then, option_
 ghost use Rattle.build_statements.specs.Contexts.{context_of, label_in, state_in};
 ghost use Rattle.build_statements.specs.Faulty.{terminator_faults};
 ghost use Rattle.build_statements.specs.Statements.{terminator_in};
-ghost use Rattle.build_faults.specs.Faults.{Notes, fault_if};
-ghost use Rattle.build_faults.specs.declared.fault.Rule.TheVariants.{NoLabel, NoState};
+ghost use Rattle.build_names.specs.Faults.{Notes, fault_if};
+ghost use Rattle.build_names.specs.declared.faults.fault.Rule.TheVariants.{NoLabel, NoState};
 ghost use Rattle.sdl_system.specs.Body.{join, to_state};
 ghost use Rattle.sdl_system.specs.Table.{terminator_of};
 ghost use Rattle.sdl_tree.specs.Views.{name_value, terminator_value};
 
 use crate::context::Context;
-use build_faults::{Faults, Rule, Token};
+use build_names::{Faults, Rule, Token};
 use sdl_system::Statement;
 use sdl_tree::{Name, NextState, Terminator};
 

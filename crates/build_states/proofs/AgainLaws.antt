@@ -1,8 +1,8 @@
 -- A list of faults that is noted again changes nothing.
 use Rattle.std.proofs.Common.{◌≡◌, ◌∙◌, Bool, true, false, List, [], ◌∷◌, Option, None, Some, ap, if◌then◌else◌, refl, subst}
-use Rattle.build_faults.proofs.OrderLemmas.{less-asym, not_less-same, not_less-trans}
-use Rattle.build_faults.specs.FaultLaws.{Each}
-use Rattle.build_faults.specs.Faults.{Diagnostic, earlier, key, least_of, precedes}
+use Rattle.build_names.proofs.OrderLemmas.{less-asym, not_less-same, not_less-trans}
+use Rattle.build_names.specs.FaultLaws.{Each}
+use Rattle.build_names.specs.Faults.{Diagnostic, earlier, key, least_of, precedes}
 
 -- a fault that is told, and doesn't come behind this one
 abbrev Covers : Option Diagnostic → Diagnostic → Type 0

@@ -5,15 +5,15 @@ use Rattle.std.specs.Map.{lookup}
 use Rattle.std.proofs.lemmas.List.{append_assoc, map-append, take_more}
 use Rattle.std.proofs.lemmas.List.Sums.{fold-append}
 use Rattle.port_values.specs.declared.item.SignalId.{SignalId}
-use Rattle.build_faults.proofs.FaultLemmas.{both_noted}
-use Rattle.build_faults.specs.Faults.{Diagnostic, fault_if, least_of}
-use Rattle.build_faults.specs.declared.fault.Rule.TheVariants.{TwiceInState}
+use Rattle.build_names.proofs.FaultLemmas.{both_noted}
+use Rattle.build_names.specs.Faults.{Diagnostic, fault_if, least_of}
+use Rattle.build_names.specs.declared.faults.fault.Rule.TheVariants.{TwiceInState}
 use Rattle.sdl_system.specs.State.{same_signal}
-use Rattle.build_stimuli.specs.Listed.{mention_value, mentions_listed, named_value, rest_value}
-use Rattle.build_stimuli.specs.Mentions as plain
+use Rattle.build_states.specs.Listed.{mention_value, mentions_listed, named_value, rest_value}
+use Rattle.build_states.specs.Mentions as plain
 use Rattle.build_states.specs.States.{Answers, is_again, named_in, twice_faults, with_mention, with_mentions, with_signal}
-use Rattle.build_stimuli.specs.declared.mention.Mention.{Mention}
-use Rattle.build_stimuli.specs.declared.mention.Response.{Response}
+use Rattle.build_states.specs.declared.stimuli.mention.Mention.{Mention}
+use Rattle.build_states.specs.declared.stimuli.mention.Response.{Response}
 
 -- ---- look-ups
 

@@ -2,15 +2,15 @@
 use Rattle.std.proofs.Common.{◌≡◌, ◌∙◌, ◌⊎◌, inl, inr, ◌||◌, ◌++◌, ℕ, Bool, true, false, not, List, [], ◌∷◌, ap, flat_map, fold, if◌then◌else◌, refl, subst, sym}
 use Rattle.std.specs.List.{list_any}
 use Rattle.std.proofs.lemmas.Slice.Eq.{bytes_eq-Decides}
-use Rattle.build_faults.proofs.FaultLemmas.{each-both, each-if, each-of, in-each, in-if, in-left, in-right}
-use Rattle.build_faults.specs.FaultLaws.{Each, In}
-use Rattle.build_faults.specs.Faults.{Diagnostic, diagnostic_at}
-use Rattle.build_labels.specs.States.{different, is_same_text, with_new}
-use Rattle.build_faults.specs.declared.fault.Rule.TheVariants.{NoState, TwiceInState}
+use Rattle.build_names.proofs.FaultLemmas.{each-both, each-if, each-of, in-each, in-if, in-left, in-right}
+use Rattle.build_names.specs.FaultLaws.{Each, In}
+use Rattle.build_names.specs.Faults.{Diagnostic, diagnostic_at}
+use Rattle.build_names.specs.States.{different, is_same_text, with_new}
+use Rattle.build_names.specs.declared.faults.fault.Rule.TheVariants.{NoState, TwiceInState}
 use Rattle.sdl_tree.specs.Tree.{BodyPart, FreeAction, StateAll, StateList, StatePart}
 use Rattle.sdl_tree.specs.Words.{Spot}
-use Rattle.build_stimuli.specs.Context.{Context}
-use Rattle.build_stimuli.specs.Reading.{Part, body_read}
+use Rattle.build_states.specs.Context.{Context}
+use Rattle.build_states.specs.Reading.{Part, body_read}
 use Rattle.build_states.specs.Broken.{BrokenListed, IsBroken, ListedBroken, no_state, twice}
 use Rattle.build_states.specs.States.{is_named, left_out_faults, mentions_in, named_faults, names_in, parts_of, states_faults, unnamed_faults}
 use Rattle.build_states.proofs.TwiceLemmas.{listed-twice, twice-listed}

@@ -8,7 +8,7 @@ use Rattle.std.proofs.lemmas.List.Elements.{filter-append}
 use Rattle.std.proofs.lemmas.List.Sums.{fold-append}
 use Rattle.sdl_tree.specs.Tree.{StateAll, StateList, States}
 use Rattle.sdl_tree.specs.Words.{Spot}
-use Rattle.build_stimuli.specs.Reading.{Part}
+use Rattle.build_states.specs.Reading.{Part}
 use Rattle.build_states.specs.Outlined.{Cursor, Seen, chosen, ends_at, first_cursor, is_of, listed_part, nothing_seen, parts_at, seen_from, seen_in, turn_at, with_left, with_names, with_own, with_states, with_turn}
 use Rattle.build_states.specs.Shared.{states_listed}
 use Rattle.build_states.specs.States.{is_named, is_part_of, parts_of}

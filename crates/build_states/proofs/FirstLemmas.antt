@@ -3,13 +3,13 @@ use Rattle.std.proofs.Common.{◌≡◌, ◌∙◌, ◌==◌, ◌||◌, ◌++◌
 use Rattle.std.specs.List.{list_any}
 use Rattle.std.specs.Option.{option_or}
 use Rattle.port_values.specs.declared.item.SignalId.{SignalId}
-use Rattle.build_scopes.proofs.NameLemmas.{lookup-append}
+use Rattle.build_names.proofs.NameLemmas.{lookup-append}
 use Rattle.sdl_system.specs.State.{same_signal}
 use Rattle.build_states.specs.FirstMention.{FirstMentionCounts, first_said, said, same_subject, speaks_of}
-use Rattle.build_stimuli.specs.Mentions.{Mention, Response}
+use Rattle.build_states.specs.Mentions.{Mention, Response}
 use Rattle.build_states.specs.States.{Answers, named_in, no_answers, with_answer, with_mention, with_mentions, with_subjects}
-use Rattle.build_stimuli.specs.declared.subject.Subject.{Subject}
-use Rattle.build_stimuli.specs.declared.subject.Subject.TheVariants.{Rest, Signal}
+use Rattle.build_states.specs.declared.stimuli.subject.Subject.{Subject}
+use Rattle.build_states.specs.declared.stimuli.subject.Subject.TheVariants.{Rest, Signal}
 
 or-none : {A : Type 0} (found : Option A) → found ≡ option_or found None
 or-none None = refl

@@ -2,9 +2,12 @@ pub mod AgainLaws
 pub mod AnswerLemmas
 pub mod BrokenLaws
 pub mod ChosenLaws
+pub mod ContextLemmas
 pub mod FirstLemmas
 pub mod OrderLemmas
 pub mod PartLemmas
+pub mod PlaceLemmas
 pub mod ProcessLemmas
 pub mod ShareLemmas
+pub mod StimuliBrokenLaws
 pub mod TwiceLemmas

@@ -3,12 +3,12 @@ use Rattle.std.proofs.Common.{◌≡◌, ◌∙◌, ◌+◌, ◌<◌, ◌++◌, 
 use Rattle.std.proofs.lemmas.Grind.{flat_map-append}
 use Rattle.std.proofs.lemmas.List.Elements.{filter-append}
 use Rattle.std.proofs.lemmas.List.Sums.{fold-append}
-use Rattle.build_faults.proofs.FaultLemmas.{both_noted}
-use Rattle.build_faults.specs.Faults.{Diagnostic, least_of}
-use Rattle.build_stimuli.specs.Listed.{part_value}
-use Rattle.build_stimuli.specs.Reading as plain
+use Rattle.build_names.proofs.FaultLemmas.{both_noted}
+use Rattle.build_names.specs.Faults.{Diagnostic, least_of}
+use Rattle.build_states.specs.Listed.{part_value}
+use Rattle.build_states.specs.Reading as plain
 use Rattle.build_states.specs.States.{Table, answers_in, continuous_in, enabling_in, is_part_of, mentions_in, no_answers, parts_of, state_faults, table_of, twice_faults, with_mention, with_parts}
-use Rattle.build_stimuli.specs.declared.reading.Part.{Part}
+use Rattle.build_states.specs.declared.stimuli.reading.Part.{Part}
 use Rattle.build_states.proofs.AnswerLemmas.{taken-more, twice-append}
 
 mentions-append : (xs ys : List plain.Part) → mentions_in (xs ++ ys) ≡ mentions_in xs ++ mentions_in ys

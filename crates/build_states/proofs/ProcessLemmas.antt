@@ -2,7 +2,7 @@
 use Rattle.std.proofs.Common.{◌≡◌, ℕ, Bool, List, [], ◌∷◌, Some, ap, flat_map, map, refl}
 use Rattle.sdl_tree.specs.Tree.{BodyPart}
 use Rattle.sdl_tree.specs.Words.{Spot}
-use Rattle.build_stimuli.specs.Reading.{Part}
+use Rattle.build_states.specs.Reading.{Part}
 use Rattle.build_states.specs.States.{left_out_faults, state_of, tables_of}
 use Rattle.build_states.specs.Tabled.{meanings_at}
 

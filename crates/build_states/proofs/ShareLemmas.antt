@@ -8,12 +8,12 @@ use Rattle.std.specs.Str.{bytes_eq}
 use Rattle.std.proofs.lemmas.Grind.{flat_map-append}
 use Rattle.std.proofs.lemmas.List.{length-map, map-append, take_more}
 use Rattle.std.proofs.lemmas.Slice.Eq.{bytes_eq-Decides}
-use Rattle.build_faults.proofs.FaultLemmas.{both_noted}
-use Rattle.build_scopes.proofs.NameLemmas.{lookup-append}
-use Rattle.build_faults.specs.Faults.{Diagnostic, least_of}
+use Rattle.build_names.proofs.FaultLemmas.{both_noted}
+use Rattle.build_names.proofs.NameLemmas.{lookup-append}
+use Rattle.build_names.specs.Faults.{Diagnostic, least_of}
 use Rattle.sdl_system.specs.declared.id.TableId.{TableId}
 use Rattle.sdl_tree.specs.Words.{Spot}
-use Rattle.build_stimuli.specs.Reading.{Part}
+use Rattle.build_states.specs.Reading.{Part}
 use Rattle.build_states.specs.Outlined.{chosen, listed_part, parts_at, seen_in, with_turn}
 use Rattle.build_states.specs.Shared.{AreShared, IsKnown, Keeps, KeepsKnown, faults_by, known_in, same_turn, same_turns, states_listed, table_at, table_by, turns_in}
 use Rattle.build_states.specs.States.{Table, mentions_in, named_faults, parts_of, state_faults, table_named, table_of, tables_of, twice_faults, with_parts}

@@ -3,14 +3,14 @@ use Rattle.std.proofs.Common.{◌≡◌, ◌∙◌, inl, inr, ℕ, ◌==◌, ◌
 use Rattle.std.specs.List.{list_any}
 use Rattle.std.proofs.lemmas.List.{append_assoc}
 use Rattle.std.proofs.lemmas.List.Sums.{fold-append}
-use Rattle.build_faults.proofs.FaultLemmas.{each-both, each-if, in-if, in-left, in-right}
-use Rattle.build_faults.specs.FaultLaws.{Each, In}
-use Rattle.build_faults.specs.Faults.{Diagnostic, fault_if, diagnostic_at}
-use Rattle.build_faults.specs.declared.fault.Rule.TheVariants.{TwiceInState}
+use Rattle.build_names.proofs.FaultLemmas.{each-both, each-if, in-if, in-left, in-right}
+use Rattle.build_names.specs.FaultLaws.{Each, In}
+use Rattle.build_names.specs.Faults.{Diagnostic, fault_if, diagnostic_at}
+use Rattle.build_names.specs.declared.faults.fault.Rule.TheVariants.{TwiceInState}
 use Rattle.sdl_tree.specs.Words.{Spot}
-use Rattle.build_stimuli.specs.Mentions.{Mention, Response}
-use Rattle.build_stimuli.specs.declared.subject.Subject.{Subject}
-use Rattle.build_stimuli.specs.declared.subject.Subject.TheVariants.{Rest, Signal}
+use Rattle.build_states.specs.Mentions.{Mention, Response}
+use Rattle.build_states.specs.declared.stimuli.subject.Subject.{Subject}
+use Rattle.build_states.specs.declared.stimuli.subject.Subject.TheVariants.{Rest, Signal}
 use Rattle.build_states.specs.Broken.{IsTwice}
 use Rattle.build_states.specs.FirstMention.{first_said, said, same_subject, speaks_of}
 use Rattle.build_states.specs.States.{Answers, answers_in, is_again, is_answered, no_answers, twice_faults, with_mention}

@@ -1,6 +1,6 @@
 -- What the answers of the code stand for.
 use Rattle.std.specs.Prelude.{option_map}
-use Rattle.build_stimuli.specs.Listed.{rest_value}
+use Rattle.build_states.specs.Listed.{rest_value}
 use Rattle.build_states.specs.States as states
 use Rattle.build_states.specs.declared.answers.Answers.{Answers}
 

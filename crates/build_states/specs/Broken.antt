@@ -1,16 +1,16 @@
 -- When a rule is broken in what the states of a process say, and at which word: said of the text, and not of what is
 -- noted.
 use Rattle.std.specs.Prelude.{◌≡◌, ◌++◌, true, false, List, ◌∷◌}
-use Rattle.build_faults.specs.FaultLaws.{Each, In}
-use Rattle.build_faults.specs.Faults.{Diagnostic, diagnostic_at}
-use Rattle.build_faults.specs.declared.fault.Rule.TheVariants.{NoState, TwiceInState}
+use Rattle.build_names.specs.FaultLaws.{Each, In}
+use Rattle.build_names.specs.Faults.{Diagnostic, diagnostic_at}
+use Rattle.build_names.specs.declared.faults.fault.Rule.TheVariants.{NoState, TwiceInState}
 use Rattle.sdl_tree.specs.Tree.{BodyPart, StateAll, StatePart, Stimulus}
 use Rattle.sdl_tree.specs.Words.{Spot}
 use Rattle.sdl_tree.specs.declared.name.Spelling.{Spelling}
-use Rattle.build_stimuli.specs.Context.{Context}
-use Rattle.build_stimuli.specs.Mentions.{Mention}
-use Rattle.build_stimuli.specs.Reading.{body_read}
-use Rattle.build_stimuli.specs.declared.subject.Subject.{Subject}
+use Rattle.build_states.specs.Context.{Context}
+use Rattle.build_states.specs.Mentions.{Mention}
+use Rattle.build_states.specs.Reading.{body_read}
+use Rattle.build_states.specs.declared.stimuli.subject.Subject.{Subject}
 use Rattle.build_states.specs.FirstMention.{speaks_of}
 use Rattle.build_states.specs.States.{is_named, mentions_in, names_in, parts_of, states_faults}
 

@@ -1,10 +1,10 @@
 -- What a state says of a signal, in the words of the text: what stands where the signal is mentioned first.
 use Rattle.std.specs.Prelude.{◌≡◌, ◌==◌, Bool, true, false, List, [], ◌∷◌, Option, None, Some, if◌then◌else◌}
 use Rattle.std.specs.List.{list_any}
-use Rattle.build_stimuli.specs.Mentions.{Mention, Response}
+use Rattle.build_states.specs.Mentions.{Mention, Response}
 use Rattle.build_states.specs.States.{Answers, answers_in, named_in}
-use Rattle.build_stimuli.specs.declared.subject.Subject.{Subject}
-use Rattle.build_stimuli.specs.declared.subject.Subject.TheVariants.{Rest, Signal}
+use Rattle.build_states.specs.declared.stimuli.subject.Subject.{Subject}
+use Rattle.build_states.specs.declared.stimuli.subject.Subject.TheVariants.{Rest, Signal}
 
 abbrev pub same_subject : Subject → Subject → Bool
 same_subject (Signal one) (Signal other) = one.0 == other.0

@@ -1,9 +1,16 @@
 pub mod Answered
 pub mod Broken
+pub mod Context
+pub mod Faulty
 pub mod FirstMention
+pub mod Listed
+pub mod Mentions
 pub mod Ordered
 pub mod Outlined
+pub mod Places
+pub mod Reading
 pub mod Shared
 pub mod States
+pub mod StimuliBroken
 pub mod Tabled
 pub mod Turned

@@ -4,7 +4,7 @@ use Rattle.std.specs.List.{between}
 use Rattle.std.specs.Str.{bytes_eq}
 use Rattle.sdl_tree.specs.Tree.{StateAll, StateList, States}
 use Rattle.sdl_tree.specs.Words.{Spot}
-use Rattle.build_stimuli.specs.Reading.{Part}
+use Rattle.build_states.specs.Reading.{Part}
 use Rattle.build_states.specs.declared.outline.Turn.{Turn}
 
 -- whether an asterisk stands for the states of a part

@@ -2,11 +2,11 @@
 use Rattle.std.specs.Prelude.{◌≡◌, ℕ, Bool, List, Option, Some, map, slice_get}
 use Rattle.std.specs.Map.{lookup}
 use Rattle.std.specs.Cmp.Lexicographic.{pointwise}
-use Rattle.build_faults.specs.Faults.{Diagnostic, least_of}
+use Rattle.build_names.specs.Faults.{Diagnostic, least_of}
 use Rattle.sdl_system.specs.declared.id.TableId.{TableId}
 use Rattle.sdl_tree.specs.Tree.{States}
 use Rattle.sdl_tree.specs.Words.{Spot}
-use Rattle.build_stimuli.specs.Reading.{Part}
+use Rattle.build_states.specs.Reading.{Part}
 use Rattle.build_states.specs.Outlined.{Seen, chosen, parts_at, seen_in}
 use Rattle.build_states.specs.States.{Table, state_faults, table_named, table_of}
 use Rattle.build_states.specs.Tabled.{table_value}

@@ -5,18 +5,18 @@ use Rattle.std.specs.Map.{lookup}
 use Rattle.std.specs.Option.{option_or}
 use Rattle.std.specs.Str.{bytes_eq}
 use Rattle.port_values.specs.declared.item.SignalId.{SignalId}
-use Rattle.build_faults.specs.Faults.{Diagnostic, fault_if}
-use Rattle.build_labels.specs.States.{different, part_states}
-use Rattle.build_faults.specs.declared.fault.Rule.TheVariants.{NoState, TwiceInState}
+use Rattle.build_names.specs.Faults.{Diagnostic, fault_if}
+use Rattle.build_names.specs.States.{different, part_states}
+use Rattle.build_names.specs.declared.faults.fault.Rule.TheVariants.{NoState, TwiceInState}
 use Rattle.sdl_system.specs.State.{same_signal}
 use Rattle.sdl_system.specs.declared.id.ConditionId.{ConditionId}
 use Rattle.sdl_tree.specs.Tree.{BodyPart, FreeAction, ProcessDefinition, StateAll, StateList, StatePart, States}
 use Rattle.sdl_tree.specs.Words.{Spot}
-use Rattle.build_stimuli.specs.Context.{Context}
-use Rattle.build_stimuli.specs.Mentions.{Mention, Response}
-use Rattle.build_stimuli.specs.Reading.{ContinuousSignal, Part, body_faults, body_read}
-use Rattle.build_stimuli.specs.declared.subject.Subject.{Subject}
-use Rattle.build_stimuli.specs.declared.subject.Subject.TheVariants.{Rest, Signal}
+use Rattle.build_states.specs.Context.{Context}
+use Rattle.build_states.specs.Mentions.{Mention, Response}
+use Rattle.build_states.specs.Reading.{ContinuousSignal, Part, body_faults, body_read}
+use Rattle.build_states.specs.declared.stimuli.subject.Subject.{Subject}
+use Rattle.build_states.specs.declared.stimuli.subject.Subject.TheVariants.{Rest, Signal}
 
 -- ---- the parts of a state
 

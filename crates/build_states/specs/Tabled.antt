@@ -1,15 +1,15 @@
 -- What the tables of the code stand for.
 use Rattle.std.specs.Prelude.{ℕ, Bool, List, [], ◌∷◌, Option, None, Some, is_some, map}
 use Rattle.std.specs.Borrow.{Bor}
-use Rattle.build_scopes.specs.Names.{first_of}
+use Rattle.build_names.specs.Names.{first_of}
 use Rattle.sdl_system.specs.declared.id.StateId.{StateId}
 use Rattle.sdl_tree.specs.Views.{name_value}
 use Rattle.sdl_tree.specs.Words.{Spot}
 use Rattle.sdl_tree.specs.declared.name.Name.{Name}
 use Rattle.build_states.specs.Answered.{answers_value}
-use Rattle.build_stimuli.specs.Listed.{continuous_value, part_value}
-use Rattle.build_stimuli.specs.Reading as read
-use Rattle.build_stimuli.specs.declared.reading.Part.{Part}
+use Rattle.build_states.specs.Listed.{continuous_value, part_value}
+use Rattle.build_states.specs.Reading as read
+use Rattle.build_states.specs.declared.stimuli.reading.Part.{Part}
 use Rattle.build_states.specs.States as states
 use Rattle.build_states.specs.declared.table.Table.{Table}
 

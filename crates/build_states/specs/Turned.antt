@@ -2,7 +2,7 @@
 use Rattle.std.specs.Prelude.{ℕ, List, [], Option, None, Some}
 use Rattle.std.specs.Borrow.{Bor}
 use Rattle.std.specs.Global.{Vec}
-use Rattle.build_scopes.specs.Names.{first_of}
+use Rattle.build_names.specs.Names.{first_of}
 use Rattle.build_states.specs.declared.outline.Turn.{Turn}
 
 abbrev pub entry_kept : Bor (List ℕ) × Vec Turn → List ℕ × List Turn

@@ -2,15 +2,15 @@
 
 ghost use Rattle.std.specs.Prelude.{◌≡◌, ◌||◌, OnOk};
 ghost use Rattle.std.specs.List.{list_any};
-ghost use Rattle.build_faults.specs.Faults.{Notes, fault_if};
-ghost use Rattle.build_faults.specs.declared.fault.Rule.TheVariants.{TwiceInState};
+ghost use Rattle.build_names.specs.Faults.{Notes, fault_if};
+ghost use Rattle.build_names.specs.declared.faults.fault.Rule.TheVariants.{TwiceInState};
 ghost use Rattle.build_states.specs.Answered.{answers_value};
-ghost use Rattle.build_stimuli.specs.Listed.{mention_value, mentions_listed, response_value};
+ghost use Rattle.build_states.specs.Listed.{mention_value, mentions_listed, response_value};
 ghost use Rattle.build_states.specs.States.{is_again, is_answered, no_answers, twice_faults, with_answer, with_mention, with_mentions, with_subjects};
 
 use crate::named::Named;
-use build_faults::{Faults, Rule};
-use build_stimuli::{Mention, Response, Subject};
+use crate::stimuli::{Mention, Response, Subject};
+use build_names::{Faults, Rule};
 use std::alloc::{AllocError, Global};
 
 /// The answers of a state to signals.

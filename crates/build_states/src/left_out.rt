@@ -1,13 +1,12 @@
 //! Names that asterisks leave out.
 
 ghost use Rattle.std.specs.Prelude.{◌≡◌, ℕ, Bool, List, flat_map, map};
-ghost use Rattle.build_faults.specs.Faults.{Notes};
+ghost use Rattle.build_names.specs.Faults.{Notes};
 ghost use Rattle.build_states.specs.States.{except_faults, left_out_faults, unnamed_faults};
 ghost use Rattle.build_states.specs.Tabled.{is_state};
 ghost use Rattle.sdl_tree.specs.Views.{body_part_value, name_value, names_value, states_value};
 
-use build_faults::{Faults, Rule, Token};
-use build_scopes::Names;
+use build_names::{Faults, Names, Rule, Token};
 use sdl_system::StateId;
 use sdl_tree::{BodyPart, Name, States};
 

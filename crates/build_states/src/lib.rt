@@ -15,6 +15,7 @@ mod order;
 mod outline;
 mod process;
 mod shared;
+mod stimuli;
 mod table;
 
 pub use answers::Answers;
@@ -23,4 +24,7 @@ pub use named::Named;
 pub use order::{NumberedSignal, tried};
 pub use process::NamedStates;
 pub use shared::{StateTables, read_states};
+pub use stimuli::{
+    Context, ContinuousSignal, Manner, Numbering, Reading, Response, TransitionId, read_body,
+};
 pub use table::Table;

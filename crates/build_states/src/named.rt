@@ -1,10 +1,10 @@
 //! The signals that a state names.
 
 ghost use Rattle.std.specs.Prelude.{◌≡◌, [], OnOk, option_map};
-ghost use Rattle.build_stimuli.specs.Listed.{response_value, rest_value};
+ghost use Rattle.build_states.specs.Listed.{response_value, rest_value};
 ghost use Rattle.build_states.specs.States.{named_in, with_signal};
 
-use build_stimuli::Response;
+use crate::stimuli::Response;
 use indexmap::IndexMap;
 use port_values::SignalId;
 use std::alloc::{AllocError, Global};
@@ -19,8 +19,8 @@ pub struct Named<'m> {
 impl<'m> Model for Named<'m> {
     ghost use Rattle.std.specs.Prelude.{List, map};
     ghost use Rattle.port_values.specs.declared.item.SignalId.{SignalId};
-    ghost use Rattle.build_stimuli.specs.Listed.{named_value};
-    ghost use Rattle.build_stimuli.specs.Mentions as plain;
+    ghost use Rattle.build_states.specs.Listed.{named_value};
+    ghost use Rattle.build_states.specs.Mentions as plain;
 
     ghost Value = { List (SignalId × plain.Response) };
 

@@ -2,13 +2,13 @@
 
 ghost use Rattle.std.specs.Prelude.{◌≡◌, ℕ, List, [], IfOk, OnOk, if◌then◌else◌, map};
 ghost use Rattle.std.specs.Str.{bytes_eq};
-ghost use Rattle.build_stimuli.specs.Listed.{part_value};
+ghost use Rattle.build_states.specs.Listed.{part_value};
 ghost use Rattle.build_states.specs.Outlined.{ends_at, seen_in, with_names, with_states, with_turn};
 ghost use Rattle.build_states.specs.Shared.{seen_of, states_listed};
 ghost use Rattle.build_states.specs.Turned.{turns_of};
 ghost use Rattle.sdl_tree.specs.Views.{names_value, states_value};
 
-use build_stimuli::Part;
+use crate::stimuli::Part;
 use indexmap::IndexMap;
 use sdl_tree::{Name, States};
 use std::alloc::{AllocError, Global};

@@ -1,6 +1,6 @@
 //! The states of a process by their names.
 
-use build_scopes::Names;
+use build_names::Names;
 use sdl_system::StateId;
 use sdl_tree::Name;
 

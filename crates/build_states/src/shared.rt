@@ -1,8 +1,8 @@
 //! What the states of a process say. States with the same parts share a table.
 
 ghost use Rattle.std.specs.Prelude.{◌≡◌, ◌<◌, ◌^◌, ℕ, All, List, None, Some, IfOk, IsOk, OnOk, flat_map, length, map};
-ghost use Rattle.build_faults.specs.Faults.{Notes};
-ghost use Rattle.build_stimuli.specs.Listed.{part_value};
+ghost use Rattle.build_names.specs.Faults.{Notes};
+ghost use Rattle.build_states.specs.Listed.{part_value};
 ghost use Rattle.build_states.specs.Outlined.{seen_in};
 ghost use Rattle.build_states.specs.Shared.{AreShared, IsKnown, IsOfName, Keeps, KeepsKnown, faults_by, known_in, seen_of, state_tables, states_listed, table_at, table_by};
 ghost use Rattle.build_states.specs.States.{named_faults, tables_of};
@@ -11,9 +11,9 @@ ghost use Rattle.build_states.specs.Tabled.{names_listed, table_value};
 use crate::chosen::chosen;
 use crate::known::Known;
 use crate::outline::{Outline, Turn};
+use crate::stimuli::Part;
 use crate::table::{Table, read_table};
-use build_faults::Faults;
-use build_stimuli::Part;
+use build_names::Faults;
 use sdl_system::TableId;
 use sdl_tree::Name;
 use std::alloc::{AllocError, Global};

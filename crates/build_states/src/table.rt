@@ -1,15 +1,15 @@
 //! What a state says, by its parts.
 
 ghost use Rattle.std.specs.Prelude.{◌≡◌, ◌++◌, ◌∷◌, [], IfOk, OnOk, map, option_map, slice_get};
-ghost use Rattle.build_faults.specs.Faults.{Notes};
-ghost use Rattle.build_stimuli.specs.Listed.{continuous_value, part_value};
+ghost use Rattle.build_names.specs.Faults.{Notes};
+ghost use Rattle.build_states.specs.Listed.{continuous_value, part_value};
 ghost use Rattle.build_states.specs.States.{mentions_in, no_table, state_faults, table_of, twice_faults, with_parts};
 ghost use Rattle.build_states.specs.Outlined.{listed_part, parts_at};
 ghost use Rattle.build_states.specs.Tabled.{part_seen, table_value};
 
 use crate::answers::Answers;
-use build_faults::Faults;
-use build_stimuli::{ContinuousSignal, Part};
+use crate::stimuli::{ContinuousSignal, Part};
+use build_names::Faults;
 use sdl_system::ConditionId;
 use std::alloc::{AllocError, Global};
 

@@ -4,8 +4,7 @@
 //! channels; blocks with processes; variables, parameters and synonyms; labels.
 
 use build_definitions::Definitions;
-use build_faults::Faults;
-use build_scopes::ScopeId;
+use build_names::{Faults, ScopeId};
 use sdl_lex::Place;
 use sdl_tree::{Name, Tree};
 use std::alloc::{AllocError, Global};

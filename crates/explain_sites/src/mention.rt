@@ -1,8 +1,7 @@
 //! The first mention of a signal that a state mentions twice.
 
 use build_definitions::Definitions;
-use build_faults::{Faults, Token};
-use build_labels::states_of;
+use build_names::{Faults, Token, states_of};
 use sdl_lex::Place;
 use sdl_tree::{
     BodyPart, Input, InputPart, Inputs, Mark, Name, ProcessDefinition, SavePart, Saved,

@@ -1,6 +1,6 @@
 //! What is wanted at a place of a specification.
 
-use build_scopes::ScopeId;
+use build_names::ScopeId;
 use sdl_lex::Place;
 use sdl_tree::{Chain, Expression, Name, SortName, UnaryOperator};
 

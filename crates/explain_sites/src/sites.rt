@@ -4,7 +4,7 @@ use crate::expression_sites::add_value;
 use crate::site::{Kind, Site, Use, What};
 use crate::transition_sites::add_transition;
 use build_definitions::Definitions;
-use build_scopes::ScopeId;
+use build_names::ScopeId;
 use sdl_lex::Place;
 use sdl_system::{BlockId, ProcessId};
 use sdl_tree::{

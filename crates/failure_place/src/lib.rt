@@ -1,6 +1,6 @@
 //! Where a node, a condition or an input of a process stands in the tree of its text.
 //!
-//! The nodes of a process are numbered as `build_nodes` adds them, which is from the end of a transition to its
+//! The nodes of a process are numbered as `build_statements::nodes` adds them, which is from the end of a transition to its
 //! beginning, and its conditions as the text has them. What is answered has the kind of the node's statement
 //! (`specs/Sites`); a process has the name of that which is asked for.
 #![tactic(auto)]

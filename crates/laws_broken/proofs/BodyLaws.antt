@@ -1,30 +1,30 @@
 -- The faults of the states and transitions of a process are the rules that are broken in them.
 use Rattle.std.proofs.Common.{◌++◌, ℕ, List}
-use Rattle.build_transitions.specs.Bodies.{bodies_faults, statement_faults}
+use Rattle.build_process.specs.Bodies.{bodies_faults, statement_faults}
 use Rattle.laws_broken.specs.Bodies as broken
 use Rattle.laws_broken.specs.Bodies.{BrokenBody, BrokenListed, ListedBroken}
-use Rattle.flow_ends.proofs.EndlessLaws.{endless-listed, listed-endless}
-use Rattle.flow_ends.proofs.StayLaws.{listed-stays, stays-listed}
-use Rattle.flow_paths.specs.Beginnings.{beginnings}
-use Rattle.flow_reach.specs.Broken.{IsEndless, IsStay}
-use Rattle.flow_reach.specs.Ends.{ends_faults}
-use Rattle.flow_paths.specs.Reach.{AreReached}
-use Rattle.flow_reach.specs.Stays.{stay_faults}
-use Rattle.build_nodes.proofs.BrokenLaws as node_laws
-use Rattle.build_nodes.proofs.ListedLaws as node_listed
-use Rattle.build_nodes.specs.Broken as transitions
+use Rattle.build_flow.proofs.EndlessLaws.{endless-listed, listed-endless}
+use Rattle.build_flow.proofs.StayLaws.{listed-stays, stays-listed}
+use Rattle.build_flow.specs.Beginnings.{beginnings}
+use Rattle.build_flow.specs.Broken.{IsEndless, IsStay}
+use Rattle.build_flow.specs.Ends.{ends_faults}
+use Rattle.build_flow.specs.Reach.{AreReached}
+use Rattle.build_flow.specs.Stays.{stay_faults}
+use Rattle.build_statements.proofs.BrokenLaws as node_laws
+use Rattle.build_statements.proofs.ListedLaws as node_listed
+use Rattle.build_statements.specs.Broken as transitions
 use Rattle.build_process.specs.Faulty.{body_faults}
 use Rattle.build_process.specs.ProcessScope.{ProcessScope, for_stimuli, for_transitions}
-use Rattle.build_faults.proofs.FaultLemmas.{each-both, each-of, in-each, in-left, in-right}
-use Rattle.build_faults.specs.FaultLaws.{Each, In}
-use Rattle.build_faults.specs.Faults.{Diagnostic}
+use Rattle.build_names.proofs.FaultLemmas.{each-both, each-of, in-each, in-left, in-right}
+use Rattle.build_names.specs.FaultLaws.{Each, In}
+use Rattle.build_names.specs.Faults.{Diagnostic}
 use Rattle.build_expressions.proofs.ListedLaws.{each-weaker}
 use Rattle.build_states.proofs.BrokenLaws as state_laws
 use Rattle.build_states.specs.Broken as states
 use Rattle.build_states.specs.States.{states_faults}
-use Rattle.build_stimuli.proofs.BrokenLaws as stimulus_laws
-use Rattle.build_stimuli.specs.Broken as stimuli
-use Rattle.build_stimuli.specs.Reading as reading
+use Rattle.build_states.proofs.StimuliBrokenLaws as stimulus_laws
+use Rattle.build_states.specs.StimuliBroken as stimuli
+use Rattle.build_states.specs.Reading as reading
 use Rattle.sdl_tree.specs.Tree.{ProcessDefinition}
 
 module _ (around : ProcessScope) (process : ProcessDefinition) (names : List (List ℕ))

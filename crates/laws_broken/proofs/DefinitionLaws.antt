@@ -16,15 +16,15 @@ use Rattle.build_constants.specs.ConstantTable.{all_counts, counts_faults_at, du
 use Rattle.build_constants.specs.Limit as constant_table
 use Rattle.build_constants.specs.Scopes.{scope_in}
 use Rattle.build_constants.specs.Synonyms.{faults_in_row}
-use Rattle.build_names.proofs.BrokenLaws as name_laws
-use Rattle.build_names.specs.Broken.{IsDeclaredTwice}
-use Rattle.build_names.specs.Meanings.{duplicate_faults}
-use Rattle.build_names.specs.declared.symbol_table.SymbolTable.{SymbolTable}
-use Rattle.build_faults.proofs.FaultLemmas.{each-both, each-of, in-each, in-left, in-right}
+use Rattle.build_definitions.proofs.SymbolsBrokenLaws as name_laws
+use Rattle.build_definitions.specs.SymbolsBroken.{IsDeclaredTwice}
+use Rattle.build_definitions.specs.Meanings.{duplicate_faults}
+use Rattle.build_definitions.specs.declared.symbols.symbol_table.SymbolTable.{SymbolTable}
+use Rattle.build_names.proofs.FaultLemmas.{each-both, each-of, in-each, in-left, in-right}
 use Rattle.build_limits.proofs.LimitLaws as limit_laws
 use Rattle.build_limits.specs.Broken.{IsLimit}
-use Rattle.build_faults.specs.FaultLaws.{Each, In}
-use Rattle.build_faults.specs.Faults.{Diagnostic}
+use Rattle.build_names.specs.FaultLaws.{Each, In}
+use Rattle.build_names.specs.Faults.{Diagnostic}
 use Rattle.build_limits.specs.Limits.{limit_faults}
 use Rattle.build_expressions.proofs.ConstantLaws.{broken-listed-constant, listed-broken-constant}
 use Rattle.build_expressions.proofs.ListedLaws.{each-weaker}

@@ -7,10 +7,10 @@ use Rattle.build_definitions.specs.Rows.{ProcessRow}
 use Rattle.build_definitions.specs.Definitions.{Rows}
 use Rattle.build_constants.specs.ConstantTable.{all_counts, counts_at}
 use Rattle.build_constants.specs.Limit.{limit_faults, limit_from, most_instances, taken_by}
-use Rattle.build_names.specs.declared.symbol_table.SymbolTable.{SymbolTable}
-use Rattle.build_faults.specs.FaultLaws.{Each, In}
-use Rattle.build_faults.specs.Faults.{Diagnostic, diagnostic_at}
-use Rattle.build_faults.specs.declared.fault.Rule.TheVariants.{Limit}
+use Rattle.build_definitions.specs.declared.symbols.symbol_table.SymbolTable.{SymbolTable}
+use Rattle.build_names.specs.FaultLaws.{Each, In}
+use Rattle.build_names.specs.Faults.{Diagnostic, diagnostic_at}
+use Rattle.build_names.specs.declared.faults.fault.Rule.TheVariants.{Limit}
 use Rattle.build_expressions.specs.declared.scope.Constant.{Constant}
 
 -- ---- numbers

@@ -2,10 +2,10 @@
 use Rattle.std.proofs.Common.{◌≡◌, ◌∙◌, ◌==◌, ◌&&◌, ◌||◌, ℕ, Bool, false, [], ◌∷◌, None, ap, arith, nat_lt, refl, sym}
 use Rattle.std.proofs.lemmas.Bool.Decides.{nat_tests}
 use Rattle.laws_broken.specs.Limits.{IsNoLimit, LimitFirst, LimitStays}
-use Rattle.build_faults.proofs.FaultLemmas.{both_noted}
-use Rattle.build_faults.specs.Faults.{Diagnostic, is_less, least_of, phase, precedes, rank}
-use Rattle.build_faults.specs.declared.fault.Rule.{Rule}
-use Rattle.build_faults.specs.declared.fault.Rule.TheVariants.{BadCount, Duplicate, Limit, NoEnd, NoLabel, NoRoute, NoState, Sort, TwiceInState, Unknown}
+use Rattle.build_names.proofs.FaultLemmas.{both_noted}
+use Rattle.build_names.specs.Faults.{Diagnostic, is_less, least_of, phase, precedes, rank}
+use Rattle.build_names.specs.declared.faults.fault.Rule.{Rule}
+use Rattle.build_names.specs.declared.faults.fault.Rule.TheVariants.{BadCount, Duplicate, Limit, NoEnd, NoLabel, NoRoute, NoState, Sort, TwiceInState, Unknown}
 
 no-phase : (rule : Rule) → (rule ≡ Limit → ⊥) → phase rule ≡ 1
 no-phase Unknown isnt = refl

@@ -1,44 +1,44 @@
 -- Which rule it is that is broken in an expression, a stimulus, a transition or in what joins the agents: none is
 -- a limit.
 use Rattle.std.proofs.Common.{◌≡◌, ◌∙◌, ◌++◌, List, Option, Some, ap, sym}
-use Rattle.build_transitions.specs.Bodies.{bodies_faults, statement_faults}
+use Rattle.build_process.specs.Bodies.{bodies_faults, statement_faults}
 use Rattle.laws_broken.specs.Limits.{IsNoLimit, NoLimitInBodies, NoLimitInNetwork}
 use Rattle.build_definitions.specs.Definitions.{Rows}
-use Rattle.flow_ends.proofs.EndlessLaws.{listed-endless}
-use Rattle.flow_paths.specs.Beginnings.{beginnings}
-use Rattle.flow_reach.specs.Broken.{IsEndless}
-use Rattle.flow_reach.specs.Ends.{ends_faults}
-use Rattle.flow_paths.specs.Reach.{met_from}
-use Rattle.flow_reach.specs.Stays.{stay_fault, stay_faults}
-use Rattle.build_names.specs.declared.symbol_table.SymbolTable.{SymbolTable}
+use Rattle.build_flow.proofs.EndlessLaws.{listed-endless}
+use Rattle.build_flow.specs.Beginnings.{beginnings}
+use Rattle.build_flow.specs.Broken.{IsEndless}
+use Rattle.build_flow.specs.Ends.{ends_faults}
+use Rattle.build_flow.specs.Reach.{met_from}
+use Rattle.build_flow.specs.Stays.{stay_fault, stay_faults}
+use Rattle.build_definitions.specs.declared.symbols.symbol_table.SymbolTable.{SymbolTable}
 use Rattle.build_network.proofs.ListedLaws as network_laws
 use Rattle.build_network.specs.Broken as network
 use Rattle.build_network.specs.Network.{network_faults}
-use Rattle.build_nodes.proofs.ListedLaws as node_laws
-use Rattle.build_nodes.specs.Broken as nodes
-use Rattle.build_nodes.specs.BrokenAnswers as answers
+use Rattle.build_statements.proofs.ListedLaws as node_laws
+use Rattle.build_statements.specs.Broken as nodes
+use Rattle.build_statements.specs.BrokenAnswers as answers
 use Rattle.build_statements.specs.Contexts as node_contexts
 use Rattle.build_statements.specs.Statements.{asked_in, kind_in}
 use Rattle.build_process.specs.Faulty.{flow_faults}
 use Rattle.build_process.specs.ProcessScope.{for_stimuli, for_transitions}
-use Rattle.build_faults.proofs.FaultLemmas.{each-both, each-of}
-use Rattle.build_faults.specs.FaultLaws.{Each}
-use Rattle.build_faults.specs.Faults.{Diagnostic}
-use Rattle.build_faults.specs.declared.fault.Rule.TheVariants.{Limit, NoEnd, NoState}
+use Rattle.build_names.proofs.FaultLemmas.{each-both, each-of}
+use Rattle.build_names.specs.FaultLaws.{Each}
+use Rattle.build_names.specs.Faults.{Diagnostic}
+use Rattle.build_names.specs.declared.faults.fault.Rule.TheVariants.{Limit, NoEnd, NoState}
 use Rattle.build_expressions.proofs.ListedLaws.{each-weaker}
 use Rattle.build_expressions.specs.Broken as sorted
 use Rattle.build_expressions.specs.Scope.{Scope, signal_in}
 use Rattle.build_expressions.specs.declared.context.Context.{Context}
 use Rattle.build_expressions.specs.declared.context.Context.TheVariants as place
-use Rattle.build_operators.specs.declared.operand_sort.OperandSort as sort_kinds
+use Rattle.build_expressions.specs.declared.operand_sort.OperandSort as sort_kinds
 use Rattle.build_states.proofs.BrokenLaws as state_laws
 use Rattle.build_states.specs.Broken as states
 use Rattle.build_states.specs.States.{process_faults, states_faults}
-use Rattle.build_stimuli.proofs.BrokenLaws as stimulus_laws
-use Rattle.build_stimuli.specs.Broken as stimuli
-use Rattle.build_stimuli.specs.Context as stimulus_contexts
-use Rattle.build_stimuli.specs.Mentions.{parameters_of}
-use Rattle.build_stimuli.specs.Reading.{body_faults}
+use Rattle.build_states.proofs.StimuliBrokenLaws as stimulus_laws
+use Rattle.build_states.specs.StimuliBroken as stimuli
+use Rattle.build_states.specs.Context as stimulus_contexts
+use Rattle.build_states.specs.Mentions.{parameters_of}
+use Rattle.build_states.specs.Reading.{body_faults}
 use Rattle.sdl_system.specs.declared.sort.Sort as sorts
 use Rattle.sdl_system.specs.declared.sort.Sort.TheVariants.{Boolean}
 use Rattle.sdl_tree.specs.Tree.{Action, Answer, BodyPart, Expr, Input, Join, Next, ProcessDefinition, Same, SignalListItem, Stimulus, Stop, Terminator, To, Transition, exprs_in}

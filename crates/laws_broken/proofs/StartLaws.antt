@@ -7,9 +7,9 @@ use Rattle.build_constants.specs.Broken.{BreaksCounts, IsBrokenInCounts, IsIniti
 use Rattle.build_constants.specs.Counts.{accepted, allows_none, are_misfit, counts_faults, counts_in, exceeds, maximum_in, number_part, part_faults, part_in, with_maximum}
 use Rattle.build_constants.specs.Limit.{taken_by}
 use Rattle.build_constants.specs.Scopes.{scope_in}
-use Rattle.build_faults.proofs.FaultLemmas.{each-in, in-if, in-right}
-use Rattle.build_faults.specs.Faults.{Diagnostic, fault_if, diagnostic_at, mark_word}
-use Rattle.build_faults.specs.declared.fault.Rule.TheVariants.{BadCount}
+use Rattle.build_names.proofs.FaultLemmas.{each-in, in-if, in-right}
+use Rattle.build_names.specs.Faults.{Diagnostic, fault_if, diagnostic_at, mark_word}
+use Rattle.build_names.specs.declared.faults.fault.Rule.TheVariants.{BadCount}
 use Rattle.build_expressions.specs.Scope.{Scope}
 use Rattle.build_expressions.specs.declared.scope.Constant.TheVariants as constants
 use Rattle.sdl_system.specs.Operation.{number_of}

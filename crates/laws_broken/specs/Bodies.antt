@@ -1,16 +1,16 @@
 -- When a rule is broken in the states and transitions of a process, and at which word: said of the text and of what
 -- names stand for around it, and not of what is noted.
 use Rattle.std.specs.Prelude.{ℕ, List}
-use Rattle.flow_paths.specs.Beginnings.{Beginning, beginnings}
-use Rattle.flow_reach.specs.Broken.{IsEndless, IsStay}
-use Rattle.flow_paths.specs.Reach.{AreReached}
-use Rattle.build_nodes.specs.Broken as transitions
+use Rattle.build_flow.specs.Beginnings.{Beginning, beginnings}
+use Rattle.build_flow.specs.Broken.{IsEndless, IsStay}
+use Rattle.build_flow.specs.Reach.{AreReached}
+use Rattle.build_statements.specs.Broken as transitions
 use Rattle.build_process.specs.Faulty.{body_faults}
 use Rattle.build_process.specs.ProcessScope.{ProcessScope, for_stimuli, for_transitions}
-use Rattle.build_faults.specs.FaultLaws.{Each, In}
-use Rattle.build_faults.specs.Faults.{Diagnostic}
+use Rattle.build_names.specs.FaultLaws.{Each, In}
+use Rattle.build_names.specs.Faults.{Diagnostic}
 use Rattle.build_states.specs.Broken as states
-use Rattle.build_stimuli.specs.Broken as stimuli
+use Rattle.build_states.specs.StimuliBroken as stimuli
 use Rattle.sdl_tree.specs.Tree.{ProcessDefinition}
 
 -- a rule is broken in the states and transitions of this process

@@ -9,12 +9,12 @@ use Rattle.build_definitions.specs.Rows.{ProcessRow, SignalRow, SynonymRow, Valu
 use Rattle.build_definitions.specs.Definitions.{Rows}
 use Rattle.build_constants.specs.ConstantTable.{duration_of, constant_table_faults, sort_of_entry}
 use Rattle.build_constants.specs.Scopes.{scope_in}
-use Rattle.build_names.specs.Broken.{IsDeclaredTwice}
-use Rattle.build_names.specs.Meanings.{duplicate_faults}
-use Rattle.build_names.specs.declared.symbol_table.SymbolTable.{SymbolTable}
+use Rattle.build_definitions.specs.SymbolsBroken.{IsDeclaredTwice}
+use Rattle.build_definitions.specs.Meanings.{duplicate_faults}
+use Rattle.build_definitions.specs.declared.symbols.symbol_table.SymbolTable.{SymbolTable}
 use Rattle.build_limits.specs.Broken.{IsLimit}
-use Rattle.build_faults.specs.FaultLaws.{Each, In}
-use Rattle.build_faults.specs.Faults.{Diagnostic}
+use Rattle.build_names.specs.FaultLaws.{Each, In}
+use Rattle.build_names.specs.Faults.{Diagnostic}
 use Rattle.build_limits.specs.Limits.{limit_faults}
 use Rattle.build_expressions.specs.Broken.{IsBrokenConstant}
 use Rattle.build_expressions.specs.declared.scope.Constant.{Constant}

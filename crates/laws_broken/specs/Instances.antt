@@ -8,9 +8,9 @@ use Rattle.build_definitions.specs.Definitions.{Rows}
 use Rattle.build_constants.specs.ConstantTable.{counts_at}
 use Rattle.build_constants.specs.Limit.{most_instances, taken_by}
 use Rattle.build_constants.specs.Scopes.{scope_in}
-use Rattle.build_names.specs.declared.symbol_table.SymbolTable.{SymbolTable}
-use Rattle.build_faults.specs.Faults.{Diagnostic, diagnostic_at}
-use Rattle.build_faults.specs.declared.fault.Rule.TheVariants.{Limit}
+use Rattle.build_definitions.specs.declared.symbols.symbol_table.SymbolTable.{SymbolTable}
+use Rattle.build_names.specs.Faults.{Diagnostic, diagnostic_at}
+use Rattle.build_names.specs.declared.faults.fault.Rule.TheVariants.{Limit}
 use Rattle.build_expressions.specs.Scope.{Scope}
 use Rattle.build_expressions.specs.declared.scope.Constant.{Constant}
 use Rattle.sdl_tree.specs.Tree.{Counts}

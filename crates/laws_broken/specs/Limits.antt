@@ -1,13 +1,13 @@
 -- Limits come first: where one is passed, it is told whatever else is noted behind it.
 use Rattle.std.specs.Prelude.{◌≡◌, ◌++◌, ℕ, List, None, Some}
 use Rattle.build_definitions.specs.Definitions.{Rows}
-use Rattle.build_names.specs.declared.symbol_table.SymbolTable.{SymbolTable}
+use Rattle.build_definitions.specs.declared.symbols.symbol_table.SymbolTable.{SymbolTable}
 use Rattle.build_network.specs.Network.{network_faults}
 use Rattle.build_process.specs.Faulty.{body_faults}
 use Rattle.build_process.specs.ProcessScope.{ProcessScope}
-use Rattle.build_faults.specs.FaultLaws.{Each}
-use Rattle.build_faults.specs.Faults.{Diagnostic, least_of}
-use Rattle.build_faults.specs.declared.fault.Rule.TheVariants.{Limit}
+use Rattle.build_names.specs.FaultLaws.{Each}
+use Rattle.build_names.specs.Faults.{Diagnostic, least_of}
+use Rattle.build_names.specs.declared.faults.fault.Rule.TheVariants.{Limit}
 use Rattle.sdl_tree.specs.Tree.{ProcessDefinition}
 
 -- the fault is no limit that is passed

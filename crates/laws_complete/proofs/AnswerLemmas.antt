@@ -3,18 +3,18 @@ use Rattle.std.proofs.Common.{◌≡◌, ◌++◌, not, Bool, true, false, [], O
 use Rattle.port_values.specs.declared.value.Value.{Value}
 use Rattle.laws_complete.specs.Complete.{HasValue, IsComplete, IsThere}
 use Rattle.laws_complete.specs.Expressions.{HasTerm}
-use Rattle.build_faults.specs.Faults.{fault_if, mark_word}
-use Rattle.build_faults.specs.declared.fault.Rule.TheVariants as broken
+use Rattle.build_names.specs.Faults.{fault_if, mark_word}
+use Rattle.build_names.specs.declared.faults.fault.Rule.TheVariants as broken
 use Rattle.build_expressions.specs.Answers.{answer_constant, answer_faults, answer_in, answer_value, answer_value_faults, comparable_in, compared_faults, comparison_for, has_order, is_comparable, is_incomparable, known}
 use Rattle.build_expressions.specs.Constants.{constant_faults, constant_in, counted, counted_faults, is_miscounted, value_of, with_value}
-use Rattle.build_operators.specs.OperandSorts.{result_of}
+use Rattle.build_expressions.specs.OperandSorts.{result_of}
 use Rattle.build_expressions.specs.Misused.{expression_faults, place_faults}
 use Rattle.build_expressions.specs.Partial.{both}
 use Rattle.build_expressions.specs.Scope.{Scope}
 use Rattle.build_expressions.specs.Typing.{Typed, taken_in, typed_in}
 use Rattle.build_expressions.specs.Words.{first_word}
 use Rattle.build_expressions.specs.declared.context.Context.TheVariants as at
-use Rattle.build_operators.specs.declared.operand_sort.OperandSort.{OperandSort}
+use Rattle.build_expressions.specs.declared.operand_sort.OperandSort.{OperandSort}
 use Rattle.build_expressions.specs.declared.scope.Constant.{Constant}
 use Rattle.build_expressions.specs.declared.scope.Constant.TheVariants as constants
 use Rattle.sdl_system.specs.declared.answer.Answer.TheVariants as answers

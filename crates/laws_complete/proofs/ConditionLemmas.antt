@@ -2,9 +2,9 @@
 use Rattle.std.proofs.Common.{◌≡◌, ◌++◌, zero, suc, Contains, List, [], ◌∷◌, Option, None, Some, arith, fold}
 use Rattle.laws_complete.specs.Complete.{AreThere, IsComplete, IsThere}
 use Rattle.build_expressions.specs.declared.context.Context.TheVariants as at
-use Rattle.build_stimuli.specs.Context as stimuli
-use Rattle.build_stimuli.specs.Faulty as faulty
-use Rattle.build_stimuli.specs.Reading.{Begun, Reading, body_faults, body_read, condition_term, first_reading, no_stimuli, part_faults, stimuli_faults, with_condition, with_part, with_stimuli, with_stimulus}
+use Rattle.build_states.specs.Context as stimuli
+use Rattle.build_states.specs.Faulty as faulty
+use Rattle.build_states.specs.Reading.{Begun, Reading, body_faults, body_read, condition_term, first_reading, no_stimuli, part_faults, stimuli_faults, with_condition, with_part, with_stimuli, with_stimulus}
 use Rattle.sdl_system.specs.Term.{Term}
 use Rattle.sdl_system.specs.declared.sort.Sort.TheVariants.{Boolean}
 use Rattle.sdl_tree.specs.Tree.{Expr}

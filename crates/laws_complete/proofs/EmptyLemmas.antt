@@ -1,8 +1,8 @@
 -- Lists of faults that are empty.
 use Rattle.std.proofs.Common.{◌≡◌, ◌++◌, Bool, true, false, List, [], ◌∷◌, flat_map, refl, sym, subst, inl, inr}
-use Rattle.build_faults.specs.FaultLaws.{In}
-use Rattle.build_faults.specs.Faults.{fault_if}
-use Rattle.build_faults.specs.declared.fault.Rule.{Rule}
+use Rattle.build_names.specs.FaultLaws.{In}
+use Rattle.build_names.specs.Faults.{fault_if}
+use Rattle.build_names.specs.declared.faults.fault.Rule.{Rule}
 use Rattle.sdl_tree.specs.Words.{Spot}
 
 pub left-empty : {A : Type 0} (xs ys : List A) → xs ++ ys ≡ [] → xs ≡ []

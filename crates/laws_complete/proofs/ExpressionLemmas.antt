@@ -3,19 +3,19 @@ use Rattle.std.proofs.Common.{◌≡◌, ◌&&◌, ◌||◌, ◌==◌, ◌++◌,
 use Rattle.std.proofs.lemmas.Bool.{eqb-true}
 use Rattle.laws_complete.specs.Complete.{HasValue, IsComplete, IsCompleteValue, IsThere}
 use Rattle.laws_complete.specs.Expressions.{HasTerm}
-use Rattle.build_faults.specs.Faults.{fault_if, diagnostic_at, mark_word}
-use Rattle.build_faults.specs.declared.fault.Rule as faults
-use Rattle.build_faults.specs.declared.fault.Rule.TheVariants as broken
+use Rattle.build_names.specs.Faults.{fault_if, diagnostic_at, mark_word}
+use Rattle.build_names.specs.declared.faults.fault.Rule as faults
+use Rattle.build_names.specs.declared.faults.fault.Rule.TheVariants as broken
 use Rattle.build_expressions.specs.Contexts.{allows_instance, allows_word}
-use Rattle.build_operators.specs.OperandSorts.{fits, result_of, unary_result_of}
+use Rattle.build_expressions.specs.OperandSorts.{fits, result_of, unary_result_of}
 use Rattle.build_expressions.specs.Misused.{active_faults, binary_faults, expression_faults, fault_of_place, links_faults, list_faults, misplaced, name_faults, place_faults, places_faults, timer_faults, unary_faults, values_faults}
 use Rattle.build_expressions.specs.Partial.{both}
 use Rattle.build_expressions.specs.Scope.{Scope, SignalMeaning, signal, timer, signal_in, value_in}
 use Rattle.build_expressions.specs.Typing.{Argument, Typed, active_term, active_typed, activity, any_refused, are_taken, argument_in, argument_refused, argument_term, argument_terms, arguments_in, binary_typed, chain_typed, is_refused_in, is_taken, joined_by, name_typed, of_synonym, of_variable, taken_in, taken_term, taken_terms, term_in, typed_in, unary_typed, with_operation, word_typed}
 use Rattle.build_expressions.specs.Words.{first_word}
 use Rattle.build_expressions.specs.declared.context.Context as contexts
-use Rattle.build_operators.specs.declared.operator.TypedOperation.{TypedOperation}
-use Rattle.build_operators.specs.declared.operator.TypedUnaryOperation.{TypedUnaryOperation}
+use Rattle.build_expressions.specs.declared.operator.TypedOperation.{TypedOperation}
+use Rattle.build_expressions.specs.declared.operator.TypedUnaryOperation.{TypedUnaryOperation}
 use Rattle.build_expressions.specs.declared.scope.Constant.{Constant}
 use Rattle.build_expressions.specs.declared.scope.Constant.TheVariants as constants
 use Rattle.build_expressions.specs.declared.scope.ValueMeaning.{ValueMeaning}

@@ -6,26 +6,26 @@ use Rattle.std.proofs.lemmas.List.{append-nil, append_assoc, map-append}
 use Rattle.std.proofs.lemmas.Slice.Eq.{bytes_eq-Decides}
 use Rattle.std.specs.List.{list_any}
 use Rattle.std.specs.Str.{bytes_eq}
-use Rattle.build_transitions.proofs.CloseLemmas.{no-fault}
-use Rattle.build_transitions.specs.Numbered.{AreDifferent, numbered}
+use Rattle.build_process.proofs.CloseLemmas.{no-fault}
+use Rattle.build_process.specs.Numbered.{AreDifferent, numbered}
 use Rattle.laws_complete.proofs.EmptyLemmas.{right-empty}
 use Rattle.laws_complete.proofs.RunLemmas.{IsOther, Run, nothing, other, process, the_process, tree-run}
 use Rattle.laws_complete.specs.Names.{HasLabels, IsFaultless, numbered_states, rows_of_tree}
 use Rattle.build_definitions.specs.Parts.{OfProcess, Placed, parts_in, placed}
 use Rattle.build_definitions.specs.Rows.{ProcessRow, label_rows, placed_labels, placed_processes, placed_states, process_row, state_rows}
-use Rattle.build_labels.specs.Labels.{process_labels}
-use Rattle.build_names.specs.Entries.{Entry, Standing, duplicates, duplicates_behind, entries_in, entry_in, is_same_name, standing, standings}
-use Rattle.build_names.specs.Meanings.{label_entries, label_entry, state_entries, state_entry}
-use Rattle.build_names.specs.declared.symbol_table.SymbolTable.{SymbolTable}
-use Rattle.build_faults.proofs.FaultLemmas.{in-left, in-right}
-use Rattle.build_faults.specs.FaultLaws.{In}
-use Rattle.build_faults.specs.Faults.{fault_if}
-use Rattle.build_labels.specs.States.{different, state_names}
-use Rattle.build_faults.specs.declared.fault.Rule.TheVariants.{Duplicate}
+use Rattle.build_names.specs.Labels.{process_labels}
+use Rattle.build_definitions.specs.Entries.{Entry, Standing, duplicates, duplicates_behind, entries_in, entry_in, is_same_name, standing, standings}
+use Rattle.build_definitions.specs.Meanings.{label_entries, label_entry, state_entries, state_entry}
+use Rattle.build_definitions.specs.declared.symbols.symbol_table.SymbolTable.{SymbolTable}
+use Rattle.build_names.proofs.FaultLemmas.{in-left, in-right}
+use Rattle.build_names.specs.FaultLaws.{In}
+use Rattle.build_names.specs.Faults.{fault_if}
+use Rattle.build_names.specs.States.{different, state_names}
+use Rattle.build_names.specs.declared.faults.fault.Rule.TheVariants.{Duplicate}
 use Rattle.build_expressions.specs.declared.scope.Constant.{Constant}
-use Rattle.build_scopes.specs.Spaces.{entry_if, names_of}
-use Rattle.build_scopes.specs.declared.scope.ScopeId.{ScopeId}
-use Rattle.build_scopes.specs.declared.scope.ScopeId.TheVariants as scope
+use Rattle.build_names.specs.Spaces.{entry_if, names_of}
+use Rattle.build_names.specs.declared.scopes.scope.ScopeId.{ScopeId}
+use Rattle.build_names.specs.declared.scopes.scope.ScopeId.TheVariants as scope
 use Rattle.sdl_system.specs.declared.id.LabelId.{LabelId}
 use Rattle.sdl_system.specs.declared.id.ProcessId.{ProcessId}
 use Rattle.sdl_system.specs.declared.id.StateId.{StateId}

@@ -3,14 +3,14 @@ use Rattle.std.proofs.Common.{◌≡◌, ◌∙◌, ◌<◌, ℕ, zero, suc, Con
 use Rattle.std.specs.List.{AllZip}
 use Rattle.port_values.specs.declared.item.SignalId.{SignalId}
 use Rattle.laws_complete.proofs.MentionedLemmas.{Begins, BeginsNumbered, Bounds, IsCondition, IsTable, found-begins, tried-each}
-use Rattle.build_faults.specs.FaultLaws.{Each}
+use Rattle.build_names.specs.FaultLaws.{Each}
 use Rattle.build_states.specs.States.{Numbered, Table, meaning_of, named_in, numbered_from, state_of, table_named, tried}
-use Rattle.build_stimuli.specs.Mentions as said
-use Rattle.build_stimuli.specs.Reading.{Part}
+use Rattle.build_states.specs.Mentions as said
+use Rattle.build_states.specs.Reading.{Part}
 use Rattle.sdl_system.specs.Behaviour.{StateMeaning, input, priority_input, save}
 use Rattle.sdl_system.specs.Term.{Term}
 use Rattle.sdl_system.specs.declared.id.ConditionId.{ConditionId}
-use Rattle.build_state_tables.specs.Meant.{IsMeaning, come_to, condition_at, continuous_meaning, response_meaning}
+use Rattle.build_tables.specs.Meant.{IsMeaning, come_to, condition_at, continuous_meaning, response_meaning}
 use Rattle.sdl_tree.specs.Words.{Spot}
 
 -- ---- what is there

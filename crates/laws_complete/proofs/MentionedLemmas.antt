@@ -3,13 +3,13 @@
 use Rattle.std.proofs.Common.{◌+◌, ◌<◌, ◌++◌, ℕ, Bool, true, false, cond, IfSome, List, [], ◌∷◌, Option, None, Some, filter, fold, if◌then◌else◌, is_some}
 use Rattle.std.specs.Option.{option_or}
 use Rattle.port_values.specs.declared.item.SignalId.{SignalId}
-use Rattle.build_faults.proofs.FaultLemmas.{each-both, each-in, each-of}
-use Rattle.build_faults.specs.FaultLaws.{Each}
+use Rattle.build_names.proofs.FaultLemmas.{each-both, each-in, each-of}
+use Rattle.build_names.specs.FaultLaws.{Each}
 use Rattle.build_states.specs.States.{Answers, Numbered, Table, comes_first, named_in, no_answers, numbered_from, parts_of, is_part_of, placed, table_of, tried, with_answer, with_mention, with_mentions, with_subjects}
-use Rattle.build_stimuli.specs.Mentions.{Mention, Response, input, priority_input, save}
-use Rattle.build_stimuli.specs.Reading.{ContinuousSignal, Part}
-use Rattle.build_stimuli.specs.declared.subject.Subject.{Subject}
-use Rattle.build_stimuli.specs.declared.subject.Subject.TheVariants.{Rest, Signal}
+use Rattle.build_states.specs.Mentions.{Mention, Response, input, priority_input, save}
+use Rattle.build_states.specs.Reading.{ContinuousSignal, Part}
+use Rattle.build_states.specs.declared.stimuli.subject.Subject.{Subject}
+use Rattle.build_states.specs.declared.stimuli.subject.Subject.TheVariants.{Rest, Signal}
 use Rattle.sdl_system.specs.State.{same_signal}
 use Rattle.sdl_system.specs.declared.id.ConditionId.{ConditionId}
 

@@ -1,15 +1,15 @@
 -- What is so of all that rows declare is so of all that is seen at a place.
 use Rattle.std.proofs.Common.{◌≡◌, ◌++◌, ℕ, Bool, true, false, cond, List, [], ◌∷◌, Option, None, Some, map, sym, subst}
 use Rattle.std.specs.Str.{bytes_eq}
-use Rattle.build_names.specs.Entries.{Entry, Has, HasMeant, entries_in, entry_in}
-use Rattle.build_faults.specs.FaultLaws.{Each}
-use Rattle.build_scopes.specs.Names.{first_of}
+use Rattle.build_definitions.specs.Entries.{Entry, Has, HasMeant, entries_in, entry_in}
+use Rattle.build_names.specs.FaultLaws.{Each}
+use Rattle.build_names.specs.Names.{first_of}
 use Rattle.build_expressions.specs.Scope.{meaning}
-use Rattle.build_scopes.specs.Spaces.{block_names, entry_if, is_same_scope, names_of, process_names, seen_in}
-use Rattle.build_scopes.specs.declared.scope.ScopeId.{ScopeId}
-use Rattle.build_scopes.specs.declared.scope.ScopeId.TheVariants as scope
-use Rattle.build_scopes.specs.declared.scope.ScopePath.{ScopePath}
-use Rattle.build_scopes.specs.declared.spaces.Spaces.{Spaces}
+use Rattle.build_names.specs.Spaces.{block_names, entry_if, is_same_scope, names_of, process_names, seen_in}
+use Rattle.build_names.specs.declared.scopes.scope.ScopeId.{ScopeId}
+use Rattle.build_names.specs.declared.scopes.scope.ScopeId.TheVariants as scope
+use Rattle.build_names.specs.declared.scopes.scope.ScopePath.{ScopePath}
+use Rattle.build_names.specs.declared.scopes.spaces.Spaces.{Spaces}
 use Rattle.sdl_system.specs.declared.id.BlockId.{BlockId}
 use Rattle.sdl_system.specs.declared.id.ProcessId.{ProcessId}
 

@@ -1,6 +1,6 @@
 -- A process in which no rule is broken isn't refused, and does what its text says.
 use Rattle.std.proofs.Common.{◌≡◌, ◌++◌, ℕ, Contains, List, [], None, Some, length, map, refl}
-use Rattle.build_transitions.specs.Bodies.{bodies_faults, bodies_of}
+use Rattle.build_process.specs.Bodies.{bodies_faults, bodies_of}
 use Rattle.laws_complete.proofs.ConditionLemmas.{conditions-given, none-missing}
 use Rattle.laws_complete.proofs.ExpressionLemmas.{empty-left, empty-right}
 use Rattle.laws_complete.proofs.MeaningLemmas.{states-given}
@@ -8,16 +8,16 @@ use Rattle.laws_complete.proofs.RangeLemmas.{anything, each-anything, entries-re
 use Rattle.laws_complete.proofs.ReadLemmas.{process-table}
 use Rattle.laws_complete.proofs.TransitionLemmas.{bodies-given}
 use Rattle.laws_complete.specs.Processes.{BehaviourGiven, IsGiven, ProcessGiven}
-use Rattle.flow_paths.specs.Beginnings.{beginnings}
-use Rattle.flow_reach.specs.Ends.{ends_faults}
-use Rattle.flow_reach.specs.Stays.{stay_faults}
+use Rattle.build_flow.specs.Beginnings.{beginnings}
+use Rattle.build_flow.specs.Ends.{ends_faults}
+use Rattle.build_flow.specs.Stays.{stay_faults}
 use Rattle.build_process.specs.Faulty.{flow_faults}
 use Rattle.build_process.specs.Refused.{no_condition, no_entry, no_flow}
 use Rattle.build_process.specs.ProcessScope.{ProcessScope, for_stimuli, for_transitions}
-use Rattle.build_faults.specs.Faults.{Diagnostic}
-use Rattle.build_labels.specs.States.{different}
+use Rattle.build_names.specs.Faults.{Diagnostic}
+use Rattle.build_names.specs.States.{different}
 use Rattle.build_states.specs.States.{names_in, process_faults, states_faults}
-use Rattle.build_stimuli.specs.Reading.{body_faults, process_read}
+use Rattle.build_states.specs.Reading.{body_faults, process_read}
 use Rattle.sdl_system.specs.Behaviour.{variable_meaning}
 use Rattle.sdl_system.specs.Body.{Body}
 use Rattle.sdl_system.specs.Signal.{is_member}

@@ -5,17 +5,17 @@ use Rattle.port_values.specs.declared.item.SignalId.{SignalId}
 use Rattle.laws_complete.proofs.MentionedLemmas.{Begins, Bounds, BeginsNumbered, IsTable, IsSaid, found-begins, tried-each}
 use Rattle.laws_complete.proofs.ReadLemmas.{bounds_of, process-table}
 use Rattle.laws_complete.specs.Ranges.{EntriesReach, IsBelow, SignalsWithin}
-use Rattle.flow_paths.specs.Beginnings.{beginnings}
+use Rattle.build_flow.specs.Beginnings.{beginnings}
 use Rattle.build_process.specs.Meant.{NamesSignals}
-use Rattle.build_faults.specs.FaultLaws.{Each}
-use Rattle.build_labels.specs.States.{different}
+use Rattle.build_names.specs.FaultLaws.{Each}
+use Rattle.build_names.specs.States.{different}
 use Rattle.build_states.specs.States.{Numbered, Table, named_in, names_in, state_of, states_of, table_named}
-use Rattle.build_stimuli.specs.Mentions.{Response, input, priority_input, save}
-use Rattle.build_stimuli.specs.Reading.{Part, process_read}
-use Rattle.build_stimuli.specs.declared.transition.TransitionId.{TransitionId}
+use Rattle.build_states.specs.Mentions.{Response, input, priority_input, save}
+use Rattle.build_states.specs.Reading.{Part, process_read}
+use Rattle.build_states.specs.declared.stimuli.transition.TransitionId.{TransitionId}
 use Rattle.sdl_system.specs.State.{same_signal}
 use Rattle.sdl_system.specs.declared.id.NodeId.{NodeId}
-use Rattle.build_signal_classes.specs.Linked.{Lacks, continuous_linked, entry_of, in_order, linked, of_continuous, of_rest, of_signal}
+use Rattle.build_tables.specs.Linked.{Lacks, continuous_linked, entry_of, in_order, linked, of_continuous, of_rest, of_signal}
 use Rattle.sdl_tree.specs.Words.{Spot}
 
 -- ---- lists

@@ -2,21 +2,21 @@
 -- what names stand for.
 use Rattle.std.proofs.Common.{◌≡◌, ◌+◌, ◌<◌, ◌≤◌, ℕ, suc, IfSome, List, [], ◌∷◌, Option, None, Some, arith, flat_map, fold, length, length-append, map, refl}
 use Rattle.port_values.specs.declared.item.SignalId.{SignalId}
-use Rattle.build_transitions.proofs.OrderLemmas.{stimuli-in-order}
+use Rattle.build_process.proofs.OrderLemmas.{stimuli-in-order}
 use Rattle.laws_complete.proofs.StayLemmas.{condition-among, last-among, parts-stay, stimuli-stay, within}
 use Rattle.laws_complete.proofs.MentionedLemmas.{Begins, BeginsContinuous, Bounds, IsCondition, IsMention, IsPart, IsTable, Speaks, table-named}
-use Rattle.flow_paths.specs.Beginnings.{beginnings, part_beginnings, stimulus_beginnings}
-use Rattle.build_faults.proofs.FaultLemmas.{each-both}
-use Rattle.build_faults.specs.FaultLaws.{Each}
+use Rattle.build_flow.specs.Beginnings.{beginnings, part_beginnings, stimulus_beginnings}
+use Rattle.build_names.proofs.FaultLemmas.{each-both}
+use Rattle.build_names.specs.FaultLaws.{Each}
 use Rattle.build_expressions.specs.Scope.{SignalMeaning, signal_in}
 use Rattle.build_states.specs.States.{table_named}
-use Rattle.build_stimuli.specs.Context.{Context, list_in}
-use Rattle.build_stimuli.specs.Mentions.{inputs_mentions, item_mention, item_subjects, list_mentions, number_of, received, saved_mentions, subjects_in, subjects_of}
-use Rattle.build_stimuli.specs.Reading.{Begun, Numbering, Reading, continuous_signal, first_reading, with_enabling, no_stimuli, number_of_condition, part_read, process_read, with_continuous, with_input, with_part, with_priority, with_saved, with_stimulus}
-use Rattle.build_stimuli.specs.declared.mention.Manner.{Manner}
-use Rattle.build_stimuli.specs.declared.mention.Manner.TheVariants as manner
-use Rattle.build_stimuli.specs.declared.subject.Subject.TheVariants.{Signal}
-use Rattle.build_stimuli.specs.declared.transition.TransitionId.{TransitionId}
+use Rattle.build_states.specs.Context.{Context, list_in}
+use Rattle.build_states.specs.Mentions.{inputs_mentions, item_mention, item_subjects, list_mentions, number_of, received, saved_mentions, subjects_in, subjects_of}
+use Rattle.build_states.specs.Reading.{Begun, Numbering, Reading, continuous_signal, first_reading, with_enabling, no_stimuli, number_of_condition, part_read, process_read, with_continuous, with_input, with_part, with_priority, with_saved, with_stimulus}
+use Rattle.build_states.specs.declared.stimuli.mention.Manner.{Manner}
+use Rattle.build_states.specs.declared.stimuli.mention.Manner.TheVariants as manner
+use Rattle.build_states.specs.declared.stimuli.subject.Subject.TheVariants.{Signal}
+use Rattle.build_states.specs.declared.stimuli.transition.TransitionId.{TransitionId}
 use Rattle.sdl_system.specs.declared.id.ConditionId.{ConditionId}
 use Rattle.sdl_system.specs.declared.id.VariableId.{VariableId}
 use Rattle.sdl_tree.specs.Tree as tree

@@ -2,10 +2,10 @@
 use Rattle.std.proofs.Common.{◌≡◌, ◌++◌, ℕ, ◌+◌, List, [], ◌∷◌, flat_map, refl, inl}
 use Rattle.build_definitions.specs.Parts.{OfBlock, OfProcess, OfChannel, OfConnection, OfSignals, OfTimers, OfSignalList, OfSynonyms, OfSignalSet, OfParameters, OfVariables, Placed, placed, after_block_part, after_block_parts, after_definition, all_parts, block_part_parts, block_parts, blocks_after, definition_parts, groups_of, local_parts, own_parts, parameter_part, parts_in, process_parts, processes_after, system_parts, variable_part}
 use Rattle.build_definitions.specs.Rows.{placed_labels, placed_processes, placed_states}
-use Rattle.build_faults.proofs.FaultLemmas.{in-each, in-left}
-use Rattle.build_faults.specs.FaultLaws.{In}
-use Rattle.build_scopes.specs.declared.scope.ScopeId.{ScopeId}
-use Rattle.build_scopes.specs.declared.scope.ScopeId.TheVariants as scope
+use Rattle.build_names.proofs.FaultLemmas.{in-each, in-left}
+use Rattle.build_names.specs.FaultLaws.{In}
+use Rattle.build_names.specs.declared.scopes.scope.ScopeId.{ScopeId}
+use Rattle.build_names.specs.declared.scopes.scope.ScopeId.TheVariants as scope
 use Rattle.sdl_system.specs.declared.id.ProcessId.{ProcessId}
 use Rattle.sdl_tree.specs.Tree.{Definition, LocalDefinition, LocalSignals, LocalSignalList, LocalSynonyms, LocalSignalSet, Variables, Timers, ParameterGroup, ProcessDefinition, Signals, SignalList, Synonyms, Channel, Process, BlockPart, InBlock, Connect, SystemDefinition, InSystem, Block, Tree, VariableGroup}
 

@@ -22,13 +22,13 @@ use Rattle.build_constants.proofs.SynonymLemmas.{faults-of}
 use Rattle.build_constants.specs.ConstantTable.{all_durations, duration_at, duration_faults_at, duration_of, sort_of_entry}
 use Rattle.build_constants.specs.Scopes.{scope_in}
 use Rattle.build_constants.specs.Synonyms.{IsSynonym, faults_in_row}
-use Rattle.build_names.specs.Entries.{Entry}
-use Rattle.build_names.specs.Meanings.{agent_entries, agent_entry, agent_means, signal_entries, signal_means, signals_from, sorts_of_row, value_entries, value_entry}
-use Rattle.build_names.specs.declared.symbol_table.SymbolTable.{SymbolTable}
+use Rattle.build_definitions.specs.Entries.{Entry}
+use Rattle.build_definitions.specs.Meanings.{agent_entries, agent_entry, agent_means, signal_entries, signal_means, signals_from, sorts_of_row, value_entries, value_entry}
+use Rattle.build_definitions.specs.declared.symbols.symbol_table.SymbolTable.{SymbolTable}
 use Rattle.build_statements.specs.Contexts.{Context}
-use Rattle.build_faults.proofs.FaultLemmas.{each-both}
-use Rattle.build_faults.specs.FaultLaws.{Each, In}
-use Rattle.build_scopes.specs.Names.{first_of}
+use Rattle.build_names.proofs.FaultLemmas.{each-both}
+use Rattle.build_names.specs.FaultLaws.{Each, In}
+use Rattle.build_names.specs.Names.{first_of}
 use Rattle.build_expressions.specs.Constants.{constant_in}
 use Rattle.build_expressions.specs.Scope.{AgentMeaning, SignalMeaning, agent_meaning, meaning, signal, signal_in, signal_meaning, timer, value_in, value_meaning}
 use Rattle.build_expressions.specs.declared.scope.Constant.{Constant}
@@ -37,9 +37,9 @@ use Rattle.build_expressions.specs.declared.scope.ValueEntry.{ValueEntry}
 use Rattle.build_expressions.specs.declared.scope.ValueEntry.TheVariants as entry
 use Rattle.build_expressions.specs.declared.scope.ValueMeaning.{ValueMeaning}
 use Rattle.build_expressions.specs.declared.scope.ValueMeaning.TheVariants as meant
-use Rattle.build_scopes.specs.declared.scope.ScopeId.{ScopeId}
-use Rattle.build_synonyms.specs.Synonyms.{scope_with, synonym_faults}
-use Rattle.build_synonyms.specs.declared.synonym.Synonym.{Synonym}
+use Rattle.build_names.specs.declared.scopes.scope.ScopeId.{ScopeId}
+use Rattle.build_constants.specs.SynonymsSynonyms.{scope_with, synonym_faults}
+use Rattle.build_constants.specs.declared.synonyms.synonym.Synonym.{Synonym}
 use Rattle.sdl_system.specs.declared.sort.Sort.{Sort}
 use Rattle.sdl_system.specs.declared.sort.Sort.TheVariants as the_sort
 use Rattle.sdl_tree.specs.Tree.{Expr, SynonymDefinition, Tree}

@@ -3,10 +3,10 @@ use Rattle.std.proofs.Common.{◌≡◌, ◌∙◌, ℕ, zero, suc, ◌<◌, Lis
 use Rattle.std.proofs.lemmas.Option.{unwrap_or-slice_get}
 use Rattle.laws_complete.proofs.ValueLemmas.{HaveSynonymSorts, IsAccepted, accepted-typed, constant-valued, fits-place}
 use Rattle.laws_complete.specs.Complete.{HasValue}
-use Rattle.build_faults.specs.FaultLaws.{Each, In}
-use Rattle.build_faults.specs.Faults.{diagnostic_at}
-use Rattle.build_scopes.specs.Names.{first_of}
-use Rattle.build_faults.specs.declared.fault.Rule.TheVariants.{BadCount}
+use Rattle.build_names.specs.FaultLaws.{Each, In}
+use Rattle.build_names.specs.Faults.{diagnostic_at}
+use Rattle.build_names.specs.Names.{first_of}
+use Rattle.build_names.specs.declared.faults.fault.Rule.TheVariants.{BadCount}
 use Rattle.build_expressions.proofs.ScopeLemmas.{meaning-first}
 use Rattle.build_expressions.specs.Broken.{Within}
 use Rattle.build_expressions.specs.Scope.{constant_at, value_in, value_meaning, visible}
@@ -16,13 +16,13 @@ use Rattle.build_expressions.specs.declared.scope.Constant.TheVariants as value
 use Rattle.build_expressions.specs.declared.scope.ValueEntry.{ValueEntry}
 use Rattle.build_expressions.specs.declared.scope.ValueEntry.TheVariants as entry
 use Rattle.build_expressions.specs.declared.scope.ValueMeaning.TheVariants as meant
-use Rattle.build_synonyms.proofs.BrokenLaws.{listed-named}
-use Rattle.build_synonyms.proofs.NamedLemmas.{listed}
-use Rattle.build_synonyms.proofs.UnvaluedLaws.{unvalued-noted}
-use Rattle.build_synonyms.specs.Named.{synonym_in}
-use Rattle.build_synonyms.specs.Synonyms.{AreConstants, Settles, constant_of, named_by, scope_with, synonym_faults}
-use Rattle.build_synonyms.specs.Synonyms as synonym
-use Rattle.build_synonyms.specs.declared.synonym.Synonym.{Synonym}
+use Rattle.build_constants.proofs.SynonymsBrokenLaws.{listed-named}
+use Rattle.build_constants.proofs.NamedLemmas.{listed}
+use Rattle.build_constants.proofs.UnvaluedLaws.{unvalued-noted}
+use Rattle.build_constants.specs.Named.{synonym_in}
+use Rattle.build_constants.specs.SynonymsSynonyms.{AreConstants, Settles, constant_of, named_by, scope_with, synonym_faults}
+use Rattle.build_constants.specs.SynonymsSynonyms as synonym
+use Rattle.build_constants.specs.declared.synonyms.synonym.Synonym.{Synonym}
 use Rattle.sdl_system.specs.declared.sort.Sort as sorts
 use Rattle.sdl_tree.specs.Tree.{Expr, Named}
 use Rattle.sdl_tree.specs.Views.{expr_value}

@@ -8,12 +8,12 @@ use Rattle.build_definitions.specs.Parts.{Part, OfBlock, OfProcess, OfChannel, O
 use Rattle.build_definitions.specs.Rows.{ProcessRow, SignalRow, SynonymRow, ValueRow, after_synonyms, after_variables, group_sorts, placed_processes, placed_signals, placed_synonyms, repeated, signal_row, signals_of, synonym_row, synonym_values, synonyms_of, timer_row, value_rows, values_of, variable_rows}
 use Rattle.build_definitions.specs.Sorts.{sort_at, unknown_sort, unknown_sorts}
 use Rattle.build_constants.specs.ConstantTable.{sort_of_entry}
-use Rattle.build_faults.proofs.FaultLemmas.{each-both, each-of}
-use Rattle.build_faults.specs.FaultLaws.{Each, In}
-use Rattle.build_faults.specs.Faults.{fault_if}
-use Rattle.build_faults.specs.declared.fault.Rule.TheVariants.{Unknown}
-use Rattle.build_scopes.specs.declared.scope.ScopeId.{ScopeId}
-use Rattle.build_scopes.specs.declared.scope.ScopeId.TheVariants as scope
+use Rattle.build_names.proofs.FaultLemmas.{each-both, each-of}
+use Rattle.build_names.specs.FaultLaws.{Each, In}
+use Rattle.build_names.specs.Faults.{fault_if}
+use Rattle.build_names.specs.declared.faults.fault.Rule.TheVariants.{Unknown}
+use Rattle.build_names.specs.declared.scopes.scope.ScopeId.{ScopeId}
+use Rattle.build_names.specs.declared.scopes.scope.ScopeId.TheVariants as scope
 use Rattle.sdl_system.specs.declared.sort.Sort.{Sort}
 use Rattle.sdl_tree.specs.Tree.{Expr, ParameterGroup, SignalDefinition, SynonymDefinition, TimerDefinition, Tree}
 use Rattle.sdl_tree.specs.Words.{Spot}

@@ -6,14 +6,14 @@ use Rattle.laws_complete.specs.Complete.{HasDurations, IsComplete, IsThere}
 use Rattle.build_statements.specs.Contexts.{Context}
 use Rattle.build_statements.specs.Faulty.{answers_faults, asked_faults, assignment_faults, create_faults, created_faults, default_faults, destination_faults, has_destination, is_lost, lacks_default, output_faults, process_faults, sending_faults, sent_faults, setting_faults, time_faults, timed_faults, timing_faults, unknown_faults, value_faults, values_faults, whither_faults}
 use Rattle.build_statements.specs.Statements.{agent_name, answers_in, assigned, assigning_in, create_in, created_as, default_of, output_in, process_of, reset_in, sending_in, sent, sent_as, sent_to, set_for, set_in, setting_in, sort_of, target_in, task_in, timed, timed_as, timing_in, value_for, values_for, when_in, whither_in, whither_of}
-use Rattle.build_faults.specs.Faults.{fault_if, diagnostic_at}
-use Rattle.build_faults.specs.declared.fault.Rule.TheVariants.{NoRoute, Unknown}
-use Rattle.build_faults.specs.declared.fault.Rule.TheVariants as broken
+use Rattle.build_names.specs.Faults.{fault_if, diagnostic_at}
+use Rattle.build_names.specs.declared.faults.fault.Rule.TheVariants.{NoRoute, Unknown}
+use Rattle.build_names.specs.declared.faults.fault.Rule.TheVariants as broken
 use Rattle.build_expressions.specs.Answers.{answer_faults, answer_in}
 use Rattle.build_expressions.specs.Partial.{all_some, both}
 use Rattle.build_expressions.specs.Scope.{AgentMeaning, SignalMeaning, agent_in, block, process, signal, signal_in, timer}
 use Rattle.build_expressions.specs.declared.context.Context.TheVariants.{Transition}
-use Rattle.build_operators.specs.declared.operand_sort.OperandSort.{OperandSort}
+use Rattle.build_expressions.specs.declared.operand_sort.OperandSort.{OperandSort}
 use Rattle.sdl_system.specs.Body as body
 use Rattle.sdl_system.specs.declared.sort.Sort.{Sort}
 use Rattle.sdl_system.specs.declared.sort.Sort.TheVariants as sorts

@@ -1,7 +1,7 @@
 -- Conditions are numbered in the order of the text: each stays, and more come behind it.
 use Rattle.std.proofs.Common.{◌<◌, ◌≤◌, ◌++◌, ℕ, IfSome, List, [], ◌∷◌, Option, None, Some, arith, fold, length, length-append}
-use Rattle.build_stimuli.specs.Context.{Context}
-use Rattle.build_stimuli.specs.Reading.{Begun, Reading, condition_term, no_stimuli, number_of_condition, with_condition, with_part, with_stimulus}
+use Rattle.build_states.specs.Context.{Context}
+use Rattle.build_states.specs.Reading.{Begun, Reading, condition_term, no_stimuli, number_of_condition, with_condition, with_part, with_stimulus}
 use Rattle.sdl_system.specs.Term.{Term}
 use Rattle.sdl_tree.specs.Tree as tree
 use Rattle.sdl_tree.specs.Tree.{BodyPart, Condition, FreeAction, InputPart, PriorityInput, SavePart, StatePart, Stimulus}

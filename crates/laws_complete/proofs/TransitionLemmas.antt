@@ -3,27 +3,27 @@ use Rattle.std.proofs.Common.{◌≡◌, ◌∙◌, ◌++◌, inl, inr, ℕ, ◌
 use Rattle.std.proofs.lemmas.Grind.{flat_map-append}
 use Rattle.std.proofs.lemmas.Slice.Eq.{bytes_eq-Decides}
 use Rattle.std.specs.Str.{bytes_eq}
-use Rattle.build_transitions.specs.Bodies.{beginning_body, bodies_among, faults_among, statement_faults}
-use Rattle.build_transitions.specs.Numbered.{AreNumbered, numbered}
+use Rattle.build_process.specs.Bodies.{beginning_body, bodies_among, faults_among, statement_faults}
+use Rattle.build_process.specs.Numbered.{AreNumbered, numbered}
 use Rattle.laws_complete.proofs.ExpressionLemmas.{both-there, empty-left, empty-right, is-there, mapped-there, term-given, unbroken}
 use Rattle.laws_complete.proofs.StatementLemmas.{answers-there, create-there, output-there, reset-there, set-there, task-there}
 use Rattle.laws_complete.specs.Complete.{HasDurations, IsComplete, IsThere}
 use Rattle.laws_complete.specs.Expressions.{HasTerm}
 use Rattle.laws_complete.specs.Transitions.{BodiesGiven}
-use Rattle.flow_paths.specs.Beginnings.{Beginning, beginnings, part_beginnings, stimulus_beginnings}
-use Rattle.build_labels.specs.Labels.{action_labels, actions_labels, body_labels, ending_labels, label_words, otherwise_labels, parts_labels, process_labels, stimulus_labels, transition_labels}
+use Rattle.build_flow.specs.Beginnings.{Beginning, beginnings, part_beginnings, stimulus_beginnings}
+use Rattle.build_names.specs.Labels.{action_labels, actions_labels, body_labels, ending_labels, label_words, otherwise_labels, parts_labels, process_labels, stimulus_labels, transition_labels}
 use Rattle.build_statements.specs.Contexts.{Context, label_in, state_in}
 use Rattle.build_statements.specs.Faulty.{answers_faults, asked_faults, terminator_faults}
 use Rattle.build_statements.specs.Statements.{answers_in, asked_in, create_in, kind_in, output_in, reset_in, set_in, task_in, terminator_in}
-use Rattle.build_nodes.specs.Transitions.{acts, action_faults, asks, before, body_in, ending_faults, ending_in, head_in, labelled, other_faults, other_in, parts_faults, parts_of, piece, pieces_in, steps_faults, steps_in, transition_faults}
-use Rattle.build_faults.proofs.FaultLemmas.{in-left, in-right}
-use Rattle.build_faults.specs.FaultLaws.{In}
-use Rattle.build_scopes.specs.Names.{first_of}
-use Rattle.build_faults.specs.declared.fault.Rule.TheVariants.{NoLabel, NoState}
+use Rattle.build_statements.specs.Transitions.{acts, action_faults, asks, before, body_in, ending_faults, ending_in, head_in, labelled, other_faults, other_in, parts_faults, parts_of, piece, pieces_in, steps_faults, steps_in, transition_faults}
+use Rattle.build_names.proofs.FaultLemmas.{in-left, in-right}
+use Rattle.build_names.specs.FaultLaws.{In}
+use Rattle.build_names.specs.Names.{first_of}
+use Rattle.build_names.specs.declared.faults.fault.Rule.TheVariants.{NoLabel, NoState}
 use Rattle.build_expressions.specs.Partial.{both}
 use Rattle.build_expressions.specs.Typing.{Typed, term_in}
 use Rattle.build_expressions.specs.declared.context.Context.TheVariants.{Transition}
-use Rattle.build_operators.specs.declared.operand_sort.OperandSort.{OperandSort}
+use Rattle.build_expressions.specs.declared.operand_sort.OperandSort.{OperandSort}
 use Rattle.sdl_system.specs.Body as body
 use Rattle.sdl_system.specs.Body.{Body}
 use Rattle.sdl_system.specs.declared.id.LabelId.{LabelId}

@@ -5,20 +5,20 @@ use Rattle.std.specs.Option.{option_and_then}
 use Rattle.port_values.specs.declared.value.Value.{Value}
 use Rattle.laws_complete.proofs.EmptyLemmas.{left-empty, not-broken, right-empty}
 use Rattle.laws_complete.specs.Complete.{HasValue, IsThere}
-use Rattle.build_faults.specs.Faults.{fault_if}
-use Rattle.build_faults.specs.declared.fault.Rule.TheVariants.{BadCount, Sort}
+use Rattle.build_names.specs.Faults.{fault_if}
+use Rattle.build_names.specs.declared.faults.fault.Rule.TheVariants.{BadCount, Sort}
 use Rattle.build_expressions.specs.Broken.{InLinks, TakesKind, Within}
 use Rattle.build_expressions.specs.Broken as broken
 use Rattle.build_expressions.specs.Constants.{constant_faults, constant_in, counted, counted_faults, is_miscounted, value_of, with_value}
 use Rattle.build_expressions.specs.Contexts.{allows_word}
-use Rattle.build_operators.specs.OperandSorts.{fits, result_of, unary_result_of}
+use Rattle.build_expressions.specs.OperandSorts.{fits, result_of, unary_result_of}
 use Rattle.build_expressions.specs.Misused.{active_faults, binary_faults, expression_faults, fault_of_place, links_faults, name_faults, place_faults, unary_faults, word_faults}
 use Rattle.build_expressions.specs.Scope.{Scope, SignalMeaning, signal, timer, signal_in, value_in}
 use Rattle.build_expressions.specs.Typing.{Argument, Typed, active_typed, activity, are_taken, arguments_in, binary_typed, chain_typed, is_refused_in, joined_by, name_typed, taken_in, typed_in, unary_typed, with_operation, word_typed}
 use Rattle.build_expressions.specs.Words.{first_word}
 use Rattle.build_expressions.specs.declared.context.Context.TheVariants.{Constant}
-use Rattle.build_operators.specs.declared.operator.TypedOperation.{TypedOperation}
-use Rattle.build_operators.specs.declared.operator.TypedUnaryOperation.{TypedUnaryOperation}
+use Rattle.build_expressions.specs.declared.operator.TypedOperation.{TypedOperation}
+use Rattle.build_expressions.specs.declared.operator.TypedUnaryOperation.{TypedUnaryOperation}
 use Rattle.build_expressions.specs.declared.scope.Constant as constants
 use Rattle.build_expressions.specs.declared.scope.Constant.TheVariants as value
 use Rattle.build_expressions.specs.declared.scope.ValueMeaning.{ValueMeaning}

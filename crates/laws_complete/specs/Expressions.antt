@@ -8,9 +8,9 @@ use Rattle.build_expressions.specs.Misused.{expression_faults, list_faults, plac
 use Rattle.build_expressions.specs.Scope.{Scope}
 use Rattle.build_expressions.specs.Typing.{Typed, argument_in, taken_term, taken_terms, typed_in}
 use Rattle.build_expressions.specs.declared.context.Context as contexts
-use Rattle.build_operators.specs.declared.operand_sort.OperandSort.{OperandSort}
-use Rattle.build_stimuli.specs.Context.{Context}
-use Rattle.build_stimuli.specs.Reading.{body_faults, body_read}
+use Rattle.build_expressions.specs.declared.operand_sort.OperandSort.{OperandSort}
+use Rattle.build_states.specs.Context.{Context}
+use Rattle.build_states.specs.Reading.{body_faults, body_read}
 use Rattle.sdl_system.specs.declared.sort.Sort.{Sort}
 use Rattle.sdl_tree.specs.Tree.{Answer, BodyPart, Expr}
 use Rattle.sdl_tree.specs.Words.{Spot}

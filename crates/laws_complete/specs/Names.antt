@@ -1,7 +1,7 @@
 -- Where no rule is broken in the definitions of a specification, its names lack nothing.
 use Rattle.std.specs.Prelude.{◌≡◌, ℕ, ◌+◌, ◌<◌, List, [], ◌∷◌, Some, length, slice_get}
 use Rattle.port_values.specs.declared.item.SignalId.{SignalId}
-use Rattle.build_transitions.specs.Numbered.{AreDifferent, numbered}
+use Rattle.build_process.specs.Numbered.{AreDifferent, numbered}
 use Rattle.laws_complete.specs.Complete.{AreThere, HasDurations, HasValue, IsComplete, IsThere}
 use Rattle.build_definitions.specs.Parts.{all_sort_faults, parts_in}
 use Rattle.build_definitions.specs.Rows.{ProcessRow, SignalRow, SynonymRow, ValueRow}
@@ -9,18 +9,18 @@ use Rattle.build_definitions.specs.Definitions.{Rows, rows_in}
 use Rattle.build_constants.specs.ConstantTable.{all_durations, constant_table_faults, sort_of_entry}
 use Rattle.build_constants.specs.Scopes.{scope_in}
 use Rattle.build_constants.specs.Synonyms.{AreSynonymConstants}
-use Rattle.build_labels.specs.Labels.{process_labels}
-use Rattle.build_names.specs.Meanings.{duplicate_faults}
-use Rattle.build_names.specs.Spaces.{AreNamesOf}
-use Rattle.build_names.specs.declared.symbol_table.SymbolTable.{SymbolTable}
+use Rattle.build_names.specs.Labels.{process_labels}
+use Rattle.build_definitions.specs.Meanings.{duplicate_faults}
+use Rattle.build_definitions.specs.Spaces.{AreNamesOf}
+use Rattle.build_definitions.specs.declared.symbols.symbol_table.SymbolTable.{SymbolTable}
 use Rattle.build_statements.specs.Contexts.{Context}
-use Rattle.build_faults.specs.FaultLaws.{Each}
-use Rattle.build_labels.specs.States.{different, state_names}
+use Rattle.build_names.specs.FaultLaws.{Each}
+use Rattle.build_names.specs.States.{different, state_names}
 use Rattle.build_expressions.specs.Scope.{SignalMeaning, signal, timer, signal_in}
 use Rattle.build_expressions.specs.declared.scope.Constant.{Constant}
-use Rattle.build_scopes.specs.Spaces.{names_of}
-use Rattle.build_scopes.specs.declared.scope.ScopeId.{ScopeId}
-use Rattle.build_scopes.specs.declared.scope.ScopeId.TheVariants as scope
+use Rattle.build_names.specs.Spaces.{names_of}
+use Rattle.build_names.specs.declared.scopes.scope.ScopeId.{ScopeId}
+use Rattle.build_names.specs.declared.scopes.scope.ScopeId.TheVariants as scope
 use Rattle.sdl_system.specs.declared.id.StateId.{StateId}
 use Rattle.sdl_tree.specs.Tree.{Tree}
 use Rattle.sdl_tree.specs.Words.{Spot}

@@ -1,6 +1,6 @@
 -- A process in which no rule is broken is there, and what it does is there (Z.101: process).
 use Rattle.std.specs.Prelude.{◌≡◌, ℕ, List, []}
-use Rattle.build_transitions.specs.Numbered.{AreNumbered}
+use Rattle.build_process.specs.Numbered.{AreNumbered}
 use Rattle.laws_complete.specs.Complete.{HasDurations, IsComplete}
 use Rattle.laws_complete.specs.Ranges.{AreBelow}
 use Rattle.build_process.specs.Faulty.{body_faults}

@@ -2,15 +2,15 @@
 -- input, continuous signal).
 use Rattle.std.specs.Prelude.{◌≡◌, ◌<◌, ℕ, All, List, Some, length}
 use Rattle.port_values.specs.declared.item.SignalId.{SignalId}
-use Rattle.flow_paths.specs.Beginnings.{beginnings}
+use Rattle.build_flow.specs.Beginnings.{beginnings}
 use Rattle.build_process.specs.Meant.{NamesSignals}
 use Rattle.build_expressions.specs.Scope.{SignalMeaning, signal_in}
 use Rattle.build_states.specs.States.{states_of, table_named}
-use Rattle.build_stimuli.specs.Context.{Context, list_in}
-use Rattle.build_stimuli.specs.Mentions.{number_of}
-use Rattle.build_stimuli.specs.Reading.{process_read}
+use Rattle.build_states.specs.Context.{Context, list_in}
+use Rattle.build_states.specs.Mentions.{number_of}
+use Rattle.build_states.specs.Reading.{process_read}
 use Rattle.sdl_system.specs.declared.id.NodeId.{NodeId}
-use Rattle.build_signal_classes.specs.Linked.{Lacks}
+use Rattle.build_tables.specs.Linked.{Lacks}
 use Rattle.sdl_tree.specs.Tree.{ProcessDefinition}
 use Rattle.sdl_tree.specs.Words.{Spot}
 

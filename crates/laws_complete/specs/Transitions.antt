@@ -1,7 +1,7 @@
 -- Transitions in which no rule is broken have their bodies (Z.101: start, input, connection; Z.102: transition).
 use Rattle.std.specs.Prelude.{◌≡◌, List, [], Some, map}
-use Rattle.build_transitions.specs.Bodies.{bodies_faults, bodies_of}
-use Rattle.build_transitions.specs.Numbered.{AreNumbered}
+use Rattle.build_process.specs.Bodies.{bodies_faults, bodies_of}
+use Rattle.build_process.specs.Numbered.{AreNumbered}
 use Rattle.laws_complete.specs.Complete.{HasDurations, IsComplete}
 use Rattle.build_statements.specs.Contexts.{Context}
 use Rattle.sdl_system.specs.Body.{Body}

@@ -2,18 +2,18 @@
 use Rattle.std.proofs.Common.{◌≡◌, ◌∙◌, ◌<◌, ◌++◌, ℕ, suc, All, List, [], Some, arith, length, refl, ap, slice_get, sym, subst}
 use Rattle.std.proofs.lemmas.List.{length-map}
 use Rattle.std.proofs.lemmas.Slice.Zip.{AllZip-long}
-use Rattle.build_transitions.specs.Bodies.{beginning_body, bodies_faults}
+use Rattle.build_process.specs.Bodies.{beginning_body, bodies_faults}
 use Rattle.laws_complete.proofs.RangeLemmas.{anything, each-anything}
 use Rattle.laws_complete.proofs.ReadLemmas.{bounds_of, process-table}
-use Rattle.flow_paths.specs.Beginnings.{beginnings, beginnings_behind}
-use Rattle.flow_reach.specs.Ends.{ends_faults}
-use Rattle.flow_paths.specs.Reach.{AreReached}
-use Rattle.flow_reach.specs.Stays.{stay_faults}
+use Rattle.build_flow.specs.Beginnings.{beginnings, beginnings_behind}
+use Rattle.build_flow.specs.Ends.{ends_faults}
+use Rattle.build_flow.specs.Reach.{AreReached}
+use Rattle.build_flow.specs.Stays.{stay_faults}
 use Rattle.build_process.specs.Faulty.{body_faults, flow_faults}
 use Rattle.build_process.specs.Meant.{IsBehaviour}
 use Rattle.build_process.specs.ProcessScope.{ProcessScope, for_stimuli, for_transitions}
 use Rattle.build_process.specs.declared.heading.Heading.{Heading}
-use Rattle.build_labels.specs.States.{different}
+use Rattle.build_names.specs.States.{different}
 use Rattle.laws_sound_processes.proofs.StartLemmas.{start-leads-on}
 use Rattle.laws_sound_processes.proofs.TypedLemmas.{bodies-are-typed}
 use Rattle.laws_sound_processes.specs.Typed.{HasSomeKind, IsSoundContext, IsTypedAction, IsTypedBody, IsTypedTerminator}
@@ -26,8 +26,8 @@ use Rattle.laws_sound_processes.specs.Behaviours.{IsSoundAround, IsSoundBehaviou
 use Rattle.laws_sound_processes.specs.ProcessLaws.{BehavioursAreSound}
 use Rattle.laws_sound_processes.specs.States.{IsSoundState}
 use Rattle.build_states.specs.States.{names_in, process_faults, states_faults}
-use Rattle.build_stimuli.specs.Reading as reading
-use Rattle.build_stimuli.specs.Reading.{process_read}
+use Rattle.build_states.specs.Reading as reading
+use Rattle.build_states.specs.Reading.{process_read}
 use Rattle.sdl_system.specs.Behaviour.{Behaviour, Means, MeansState}
 use Rattle.sdl_system.specs.Body as body
 use Rattle.sdl_system.specs.Body.{Action, Body, Parts, Terminator}

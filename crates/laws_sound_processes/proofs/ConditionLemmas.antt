@@ -1,20 +1,20 @@
 -- Each condition that stimuli ask fits a place of a truth.
 use Rattle.std.proofs.Common.{◌++◌, ℕ, zero, suc, List, [], ◌∷◌, Option, None, Some, fold, slice_get}
-use Rattle.build_faults.proofs.FaultLemmas.{each-both}
-use Rattle.build_faults.specs.FaultLaws.{Each}
+use Rattle.build_names.proofs.FaultLemmas.{each-both}
+use Rattle.build_names.specs.FaultLaws.{Each}
 use Rattle.build_expressions.specs.declared.context.Context.TheVariants as at
 use Rattle.laws_sound_processes.proofs.TypedLemmas.{Holds, holds-of}
 use Rattle.laws_sound_processes.specs.States.{IsTruth}
 use Rattle.laws_sound_runs.proofs.KindLemmas.{placed-terms-fit}
 use Rattle.laws_sound_runs.specs.Scopes.{IsSoundScope}
-use Rattle.build_stimuli.specs.Context.{Context}
-use Rattle.build_stimuli.specs.Reading.{Begun, Reading, body_read, condition_term, first_reading, no_stimuli, with_condition, with_part, with_stimuli, with_stimulus}
+use Rattle.build_states.specs.Context.{Context}
+use Rattle.build_states.specs.Reading.{Begun, Reading, body_read, condition_term, first_reading, no_stimuli, with_condition, with_part, with_stimuli, with_stimulus}
 use Rattle.sdl_system.specs.System.{SystemValue}
 use Rattle.sdl_system.specs.Term.{Term}
 use Rattle.sdl_system.specs.declared.id.ConditionId.{ConditionId}
 use Rattle.sdl_system.specs.declared.process.Process.{Process}
 use Rattle.sdl_system.specs.declared.sort.Sort.TheVariants.{Boolean}
-use Rattle.build_state_tables.specs.Meant.{come_to, condition_at}
+use Rattle.build_tables.specs.Meant.{come_to, condition_at}
 use Rattle.sdl_tree.specs.Tree as tree
 use Rattle.sdl_tree.specs.Tree.{BodyPart, Expr, Stimulus}
 

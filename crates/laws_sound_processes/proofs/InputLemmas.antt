@@ -4,12 +4,12 @@ use Rattle.std.proofs.lemmas.Bool.{eqb-true, ltb-false}
 use Rattle.std.proofs.lemmas.List.{length-map}
 use Rattle.std.specs.Option.{option_or}
 use Rattle.port_values.specs.declared.item.SignalId.{SignalId}
-use Rattle.build_faults.proofs.FaultLemmas.{each-both, each-in, each-of}
-use Rattle.build_faults.specs.FaultLaws.{Each}
-use Rattle.build_faults.specs.Faults.{fault_if}
-use Rattle.build_faults.specs.declared.fault.Rule as faults
-use Rattle.build_faults.specs.declared.fault.Rule.TheVariants as broken
-use Rattle.build_operators.specs.OperandSorts.{fits, kind_of}
+use Rattle.build_names.proofs.FaultLemmas.{each-both, each-in, each-of}
+use Rattle.build_names.specs.FaultLaws.{Each}
+use Rattle.build_names.specs.Faults.{fault_if}
+use Rattle.build_names.specs.declared.faults.fault.Rule as faults
+use Rattle.build_names.specs.declared.faults.fault.Rule.TheVariants as broken
+use Rattle.build_expressions.specs.OperandSorts.{fits, kind_of}
 use Rattle.build_expressions.specs.Scope as names
 use Rattle.build_expressions.specs.Scope.{SignalMeaning, signal_in, value_in}
 use Rattle.build_expressions.specs.declared.scope.ValueMeaning.{ValueMeaning}
@@ -17,15 +17,15 @@ use Rattle.build_expressions.specs.declared.scope.ValueMeaning.TheVariants as me
 use Rattle.laws_sound_processes.specs.States.{IsSoundInput, TakeAll}
 use Rattle.laws_sound_runs.specs.Scopes.{IsSoundScope, IsSoundSignal, IsSoundValue}
 use Rattle.build_states.specs.States.{Answers, is_part_of, mentions_in, named_in, no_answers, parts_of, table_named, with_answer, with_mention, with_mentions, with_subjects}
-use Rattle.build_stimuli.specs.Context.{Context}
-use Rattle.build_stimuli.specs.Faulty as faulty
-use Rattle.build_stimuli.specs.Mentions.{Mention, Response, input, inputs_mentions, item_mention, item_subjects, list_mentions, number_of, priority_input, received, save, saved_mentions, sorts_of, subjects_of, variable_of, variables_in}
-use Rattle.build_stimuli.specs.Reading.{Begun, Part, Reading, body_faults, body_read, first_reading, no_stimuli, number_of_condition, stimuli_faults, with_part, with_stimuli, with_stimulus}
-use Rattle.build_stimuli.specs.declared.mention.Manner.{Manner}
-use Rattle.build_stimuli.specs.declared.mention.Manner.TheVariants as manner
-use Rattle.build_stimuli.specs.declared.subject.Subject.{Subject}
-use Rattle.build_stimuli.specs.declared.subject.Subject.TheVariants.{Rest, Signal}
-use Rattle.build_stimuli.specs.declared.transition.TransitionId.{TransitionId}
+use Rattle.build_states.specs.Context.{Context}
+use Rattle.build_states.specs.Faulty as faulty
+use Rattle.build_states.specs.Mentions.{Mention, Response, input, inputs_mentions, item_mention, item_subjects, list_mentions, number_of, priority_input, received, save, saved_mentions, sorts_of, subjects_of, variable_of, variables_in}
+use Rattle.build_states.specs.Reading.{Begun, Part, Reading, body_faults, body_read, first_reading, no_stimuli, number_of_condition, stimuli_faults, with_part, with_stimuli, with_stimulus}
+use Rattle.build_states.specs.declared.stimuli.mention.Manner.{Manner}
+use Rattle.build_states.specs.declared.stimuli.mention.Manner.TheVariants as manner
+use Rattle.build_states.specs.declared.stimuli.subject.Subject.{Subject}
+use Rattle.build_states.specs.declared.stimuli.subject.Subject.TheVariants.{Rest, Signal}
+use Rattle.build_states.specs.declared.stimuli.transition.TransitionId.{TransitionId}
 use Rattle.sdl_system.specs.State.{same_signal}
 use Rattle.sdl_system.specs.System.{SystemValue}
 use Rattle.sdl_system.specs.declared.id.ConditionId.{ConditionId}

@@ -1,18 +1,18 @@
 -- Each path from a label of a body is one from a label of the transition.
 use Rattle.std.proofs.Common.{◌≡◌, ◌∙◌, ◌⊎◌, ◌++◌, inl, inr, List, [], ◌∷◌, Option, None, Some, option_map, refl, ap, sym, subst}
-use Rattle.build_transitions.proofs.EndLemmas.{both-some, map-some, some-same, standing}
-use Rattle.flow_paths.specs.Mentions as mention
-use Rattle.flow_paths.specs.Mentions.{action_mentions, actions_mentions, ending_mentions, label_mentions, otherwise_mentions, parts_mentions, terminator_mentions, transition_mentions}
-use Rattle.flow_paths.specs.Paths as way
-use Rattle.flow_paths.specs.Paths.{Answered, AtFirst, AtLabel}
+use Rattle.build_process.proofs.EndLemmas.{both-some, map-some, some-same, standing}
+use Rattle.build_flow.specs.Mentions as mention
+use Rattle.build_flow.specs.Mentions.{action_mentions, actions_mentions, ending_mentions, label_mentions, otherwise_mentions, parts_mentions, terminator_mentions, transition_mentions}
+use Rattle.build_flow.specs.Paths as way
+use Rattle.build_flow.specs.Paths.{Answered, AtFirst, AtLabel}
 use Rattle.build_statements.specs.Contexts.{Context, label_in}
 use Rattle.build_statements.specs.Statements.{answers_in, asked_in, create_in, kind_in, output_in, reset_in, set_in, task_in, terminator_in}
-use Rattle.build_nodes.specs.Transitions.{Head, Piece, acts, asks, before, body_in, ending_in, head_in, labelled, other_in, parts_of, piece, pieces_in, steps_in}
-use Rattle.build_faults.proofs.FaultLemmas.{in-left, in-right}
-use Rattle.build_faults.specs.FaultLaws.{In}
+use Rattle.build_statements.specs.Transitions.{Head, Piece, acts, asks, before, body_in, ending_in, head_in, labelled, other_in, parts_of, piece, pieces_in, steps_in}
+use Rattle.build_names.proofs.FaultLemmas.{in-left, in-right}
+use Rattle.build_names.specs.FaultLaws.{In}
 use Rattle.build_expressions.specs.Partial.{both}
 use Rattle.build_expressions.specs.Typing.{term_in}
-use Rattle.build_operators.specs.declared.operand_sort.OperandSort.{OperandSort}
+use Rattle.build_expressions.specs.declared.operand_sort.OperandSort.{OperandSort}
 use Rattle.laws_sound_processes.proofs.MeetLemmas.{Leaves, LeavesBehind, LeavesPart, closed, meeting, meets-head, meets-steps, step-left, through-part}
 use Rattle.laws_sound_runs.specs.Paths.{Meets}
 use Rattle.sdl_system.proofs.BodyLemmas.{followed-assoc}

@@ -4,24 +4,24 @@ use Rattle.std.proofs.lemmas.List.Elements.{All-cons, All-head, All-nil, All-tai
 use Rattle.std.proofs.lemmas.Bool.{cases_lt}
 use Rattle.std.specs.List.{AllZip}
 use Rattle.port_values.specs.declared.item.SignalId.{SignalId}
-use Rattle.build_transitions.proofs.EndLemmas.{map-some, some-same}
+use Rattle.build_process.proofs.EndLemmas.{map-some, some-same}
 use Rattle.laws_complete.proofs.MentionedLemmas.{Begins, BeginsNumbered, Bounds, IsTable, found-begins, tried-each}
 use Rattle.build_process.specs.Meant.{NamesSignals}
-use Rattle.build_faults.specs.FaultLaws.{Each}
+use Rattle.build_names.specs.FaultLaws.{Each}
 use Rattle.laws_sound_processes.proofs.TypedLemmas.{Holds}
 use Rattle.laws_sound_processes.proofs.ConditionLemmas.{AreTruths, truth-at}
 use Rattle.laws_sound_processes.proofs.InputLemmas.{AreGood, Says, SaysRest, named-says, rest-says}
 use Rattle.laws_sound_processes.specs.States.{IsSoundContinuous, IsSoundInput, IsSoundResponse, IsSoundRest, IsSoundState, IsTruth}
 use Rattle.build_states.specs.States.{Numbered, named_in, numbered_from, state_of, table_named, tried}
-use Rattle.build_stimuli.specs.Mentions as said
-use Rattle.build_stimuli.specs.Reading.{Part}
+use Rattle.build_states.specs.Mentions as said
+use Rattle.build_states.specs.Reading.{Part}
 use Rattle.sdl_system.specs.Behaviour.{ContinuousSignal, Response, StateMeaning, input, priority_input, save}
 use Rattle.sdl_system.specs.System.{SystemValue}
 use Rattle.sdl_system.specs.Term.{Term}
 use Rattle.sdl_system.specs.declared.id.ConditionId.{ConditionId}
 use Rattle.sdl_system.specs.declared.id.VariableId.{VariableId}
 use Rattle.sdl_system.specs.declared.process.Process.{Process}
-use Rattle.build_state_tables.specs.Meant.{IsMeaning, condition_at, continuous_meaning, input_meaning, response_meaning}
+use Rattle.build_tables.specs.Meant.{IsMeaning, condition_at, continuous_meaning, input_meaning, response_meaning}
 use Rattle.sdl_tree.specs.Words.{Spot}
 
 -- ---- lists

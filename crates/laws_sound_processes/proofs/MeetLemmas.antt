@@ -1,14 +1,14 @@
 -- Each path through the body of a transition is one through the transition.
 use Rattle.std.proofs.Common.{◌≡◌, ◌∙◌, ◌⊎◌, inl, inr, List, [], ◌∷◌, Option, None, Some, option_map, refl, ap, sym, subst}
-use Rattle.build_transitions.proofs.EndLemmas.{Labelled, both-some, labelled-some, map-some, opened, some-same, without}
-use Rattle.flow_paths.specs.Paths as way
-use Rattle.flow_paths.specs.Paths.{Answered, AtFirst, ComesInto, ComesTo, Crosses, GoesBehind, IsPart, IsSimple, Origin, RunsOff}
+use Rattle.build_process.proofs.EndLemmas.{Labelled, both-some, labelled-some, map-some, opened, some-same, without}
+use Rattle.build_flow.specs.Paths as way
+use Rattle.build_flow.specs.Paths.{Answered, AtFirst, ComesInto, ComesTo, Crosses, GoesBehind, IsPart, IsSimple, Origin, RunsOff}
 use Rattle.build_statements.specs.Contexts.{Context}
 use Rattle.build_statements.specs.Statements.{answers_in, asked_in, create_in, kind_in, output_in, reset_in, set_in, task_in, terminator_in}
-use Rattle.build_nodes.specs.Transitions.{Head, Piece, acts, asks, before, body_in, ending_in, head_in, other_in, parts_of, piece, pieces_in, steps_in}
+use Rattle.build_statements.specs.Transitions.{Head, Piece, acts, asks, before, body_in, ending_in, head_in, other_in, parts_of, piece, pieces_in, steps_in}
 use Rattle.build_expressions.specs.Partial.{both}
 use Rattle.build_expressions.specs.Typing.{term_in}
-use Rattle.build_operators.specs.declared.operand_sort.OperandSort.{OperandSort}
+use Rattle.build_expressions.specs.declared.operand_sort.OperandSort.{OperandSort}
 use Rattle.laws_sound_runs.specs.Paths.{IsPartOf, Meets, at_end, behind_action, behind_else, behind_label, by_part, first_part, later_part}
 use Rattle.sdl_system.specs.Body as body
 use Rattle.sdl_system.specs.Body.{Body, followed}

@@ -3,28 +3,28 @@ use Rattle.std.proofs.Common.{◌≡◌, ◌∙◌, ◌++◌, ◌&&◌, ◌==◌
 use Rattle.std.proofs.lemmas.Bool.{eq-eqb}
 use Rattle.std.proofs.lemmas.Slice.Eq.{bytes_eq-Decides}
 use Rattle.std.specs.Str.{bytes_eq}
-use Rattle.build_transitions.proofs.EndLemmas.{both-some, map-some, some-same, standing}
-use Rattle.build_transitions.proofs.MentionLemmas.{process-spots}
-use Rattle.build_transitions.proofs.NumberLemmas.{same-text}
-use Rattle.build_transitions.specs.Bodies.{beginning_body, bodies_among, bodies_of}
-use Rattle.build_transitions.specs.Numbered.{AreDifferent, AreNumbered}
-use Rattle.flow_reach.proofs.ReachLaws.{reached-listed}
-use Rattle.flow_paths.specs.Beginnings.{Beginning, beginnings, beginnings_behind, start_beginning}
-use Rattle.flow_paths.specs.Mentions as mention
-use Rattle.flow_paths.specs.Mentions.{Mention, beginning_mentions, label_entries, label_mentions, process_mentions, transition_mentions}
-use Rattle.flow_paths.specs.Paths.{AtFirst, AtLabel}
-use Rattle.flow_paths.specs.Reach as reach
-use Rattle.flow_paths.specs.Reach.{AreReached, LeadsOn, StartReaches, is_first, is_place, labels_in, met_from}
-use Rattle.flow_reach.specs.Stays.{stay_fault, stay_faults}
+use Rattle.build_process.proofs.EndLemmas.{both-some, map-some, some-same, standing}
+use Rattle.build_process.proofs.MentionLemmas.{process-spots}
+use Rattle.build_process.proofs.NumberLemmas.{same-text}
+use Rattle.build_process.specs.Bodies.{beginning_body, bodies_among, bodies_of}
+use Rattle.build_process.specs.Numbered.{AreDifferent, AreNumbered}
+use Rattle.build_flow.proofs.ReachLaws.{reached-listed}
+use Rattle.build_flow.specs.Beginnings.{Beginning, beginnings, beginnings_behind, start_beginning}
+use Rattle.build_flow.specs.Mentions as mention
+use Rattle.build_flow.specs.Mentions.{Mention, beginning_mentions, label_entries, label_mentions, process_mentions, transition_mentions}
+use Rattle.build_flow.specs.Paths.{AtFirst, AtLabel}
+use Rattle.build_flow.specs.Reach as reach
+use Rattle.build_flow.specs.Reach.{AreReached, LeadsOn, StartReaches, is_first, is_place, labels_in, met_from}
+use Rattle.build_flow.specs.Stays.{stay_fault, stay_faults}
 use Rattle.sdl_lex.specs.declared.place.Place.{Place}
 use Rattle.build_statements.specs.Contexts.{Context, label_in, state_in}
 use Rattle.build_statements.specs.Statements.{terminator_in}
-use Rattle.build_nodes.specs.Transitions.{body_in, labelled}
-use Rattle.build_faults.proofs.FaultLemmas.{in-each, in-right}
-use Rattle.build_faults.specs.FaultLaws.{In}
-use Rattle.build_faults.specs.Faults.{Diagnostic, diagnostic_at, mark_word}
-use Rattle.build_scopes.specs.Names.{first_of}
-use Rattle.build_faults.specs.declared.fault.Rule.TheVariants.{NoState}
+use Rattle.build_statements.specs.Transitions.{body_in, labelled}
+use Rattle.build_names.proofs.FaultLemmas.{in-each, in-right}
+use Rattle.build_names.specs.FaultLaws.{In}
+use Rattle.build_names.specs.Faults.{Diagnostic, diagnostic_at, mark_word}
+use Rattle.build_names.specs.Names.{first_of}
+use Rattle.build_names.specs.declared.faults.fault.Rule.TheVariants.{NoState}
 use Rattle.laws_sound_processes.proofs.LabelLemmas.{FromTransition, from-transition}
 use Rattle.laws_sound_processes.proofs.MeetLemmas.{Leaves, meeting, meets-transition}
 use Rattle.laws_sound_processes.specs.BodyLaws.{StartLeadsOn}

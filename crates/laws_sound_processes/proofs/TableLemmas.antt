@@ -4,8 +4,8 @@ use Rattle.std.proofs.lemmas.List.Elements.{All-cons, All-head, All-nil, All-tai
 use Rattle.std.proofs.lemmas.Option.{slice_get_within}
 use Rattle.std.specs.List.{AllZip}
 use Rattle.port_values.specs.declared.item.SignalId.{SignalId}
-use Rattle.build_transitions.proofs.EndLemmas.{map-some, some-same}
-use Rattle.build_faults.specs.FaultLaws.{Each}
+use Rattle.build_process.proofs.EndLemmas.{map-some, some-same}
+use Rattle.build_names.specs.FaultLaws.{Each}
 use Rattle.laws_sound_processes.specs.Behaviours.{IsSoundBehaviour}
 use Rattle.laws_sound_processes.specs.States as states
 use Rattle.laws_sound_processes.specs.States.{IsSoundInput, IsSoundResponse, IsSoundState, TakeAll}

@@ -2,18 +2,18 @@
 use Rattle.std.proofs.Common.{◌≡◌, ◌++◌, ℕ, All, IfSome, List, [], ◌∷◌, Option, None, Some, flat_map, map, option_map, refl, slice_get, sym, subst, zero, suc}
 use Rattle.std.proofs.lemmas.List.Elements.{All-cons, All-nil}
 use Rattle.std.proofs.lemmas.Option.{slice_get_within}
-use Rattle.build_transitions.specs.Bodies.{beginning_body, bodies_among}
-use Rattle.flow_paths.specs.Beginnings.{Beginning, beginnings}
+use Rattle.build_process.specs.Bodies.{beginning_body, bodies_among}
+use Rattle.build_flow.specs.Beginnings.{Beginning, beginnings}
 use Rattle.build_statements.specs.Contexts.{Context, label_in, state_in}
 use Rattle.build_statements.specs.Statements.{agent_name, answers_in, asked_in, assigned, assigning_in, create_in, created_as, default_of, kind_in, output_in, process_of, reset_in, sending_in, sent, sent_as, sent_to, set_for, set_in, setting_in, sort_of, target_of, task_in, terminator_in, timed, timed_as, timing_in, value_for, values_for, when_in, whither_in, whither_of}
-use Rattle.build_nodes.specs.Transitions.{Head, Piece, acts, asks, before, body_in, ending_in, head_in, labelled, other_in, parts_of, piece, pieces_in, steps_in}
+use Rattle.build_statements.specs.Transitions.{Head, Piece, acts, asks, before, body_in, ending_in, head_in, labelled, other_in, parts_of, piece, pieces_in, steps_in}
 use Rattle.build_statements.specs.declared.task.Target.{Target}
 use Rattle.build_expressions.specs.Partial.{all_some, both}
 use Rattle.build_expressions.specs.Scope as names
 use Rattle.build_expressions.specs.Scope.{AgentMeaning, SignalMeaning, agent_in, signal_in, value_in}
 use Rattle.build_expressions.specs.Typing.{Typed, term_in}
 use Rattle.build_expressions.specs.declared.context.Context.TheVariants.{Transition}
-use Rattle.build_operators.specs.declared.operand_sort.OperandSort.{OperandSort}
+use Rattle.build_expressions.specs.declared.operand_sort.OperandSort.{OperandSort}
 use Rattle.build_expressions.specs.declared.scope.ValueMeaning.{ValueMeaning}
 use Rattle.build_expressions.specs.declared.scope.ValueMeaning.TheVariants as meant
 use Rattle.laws_sound_processes.specs.BodyLaws.{BodiesAreTyped, TransitionsAreTyped}

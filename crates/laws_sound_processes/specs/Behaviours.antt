@@ -2,7 +2,7 @@
 -- (Z.101: process).
 use Rattle.std.specs.Prelude.{◌≡◌, ◌<◌, ℕ, All, List, Some, length, slice_get}
 use Rattle.build_process.specs.ProcessScope.{ProcessScope}
-use Rattle.build_scopes.specs.Names.{first_of}
+use Rattle.build_names.specs.Names.{first_of}
 use Rattle.laws_sound_processes.specs.Typed.{IsTypedBody}
 use Rattle.laws_sound_runs.specs.States.{LeadsToStates}
 use Rattle.laws_sound_processes.specs.States.{IsSoundState}

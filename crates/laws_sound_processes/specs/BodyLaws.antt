@@ -1,13 +1,13 @@
 -- Bodies are sound: their statements name what is there, with values that fit their places, and no path from the start
 -- comes to a `nextstate -` (Z.101: start; Z.102: transition, nextstate).
 use Rattle.std.specs.Prelude.{◌≡◌, ℕ, List, [], Some, map, slice_get}
-use Rattle.build_transitions.specs.Bodies.{bodies_of}
-use Rattle.build_transitions.specs.Numbered.{AreNumbered}
-use Rattle.flow_paths.specs.Beginnings.{beginnings}
-use Rattle.flow_paths.specs.Reach.{AreReached}
-use Rattle.flow_reach.specs.Stays.{stay_faults}
+use Rattle.build_process.specs.Bodies.{bodies_of}
+use Rattle.build_process.specs.Numbered.{AreNumbered}
+use Rattle.build_flow.specs.Beginnings.{beginnings}
+use Rattle.build_flow.specs.Reach.{AreReached}
+use Rattle.build_flow.specs.Stays.{stay_faults}
 use Rattle.build_statements.specs.Contexts.{Context}
-use Rattle.build_nodes.specs.Transitions.{body_in}
+use Rattle.build_statements.specs.Transitions.{body_in}
 use Rattle.laws_sound_processes.specs.Typed.{IsSoundContext, IsTypedAction, IsTypedBody}
 use Rattle.laws_sound_runs.specs.Paths.{Reaches}
 use Rattle.sdl_system.specs.Body as body

@@ -4,8 +4,8 @@ use Rattle.std.specs.Prelude.{◌≡◌, ℕ, true, List, [], Ok}
 use Rattle.port_model.specs.History.{PortEvent}
 use Rattle.port_model.specs.Port.{PortState}
 use Rattle.port_values.specs.declared.value.Value.{Value}
-use Rattle.flow_paths.specs.Beginnings.{beginnings}
-use Rattle.flow_paths.specs.Reach.{AreReached}
+use Rattle.build_flow.specs.Beginnings.{beginnings}
+use Rattle.build_flow.specs.Reach.{AreReached}
 use Rattle.run_evaluation.specs.Environment.{environment}
 use Rattle.run_evaluation.specs.Value.{value_of}
 use Rattle.run_evaluation.specs.declared.identity.Identity.{Identity}
@@ -17,7 +17,7 @@ use Rattle.build_process.specs.declared.heading.Heading.{Heading}
 use Rattle.run_semantics.specs.Effect.{Deed}
 use Rattle.run_semantics.specs.ControlPoint.{Definition, ControlPoint}
 use Rattle.run_semantics.specs.Runs.{Runs}
-use Rattle.build_operators.specs.declared.operand_sort.OperandSort.{OperandSort}
+use Rattle.build_expressions.specs.declared.operand_sort.OperandSort.{OperandSort}
 use Rattle.laws_sound_runs.specs.Sorts.{HaveSorts}
 use Rattle.laws_sound_processes.specs.Behaviours.{IsSoundAround, IsSoundBehaviour}
 use Rattle.laws_sound_runs.specs.Kinds.{HasKind, has_kind}

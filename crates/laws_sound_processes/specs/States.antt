@@ -2,7 +2,7 @@
 -- signal).
 use Rattle.std.specs.Prelude.{◌≡◌, ◌<◌, ℕ, true, All, IfSome, List, [], ◌∷◌, Option, None, Some, length, slice_get}
 use Rattle.port_values.specs.declared.item.SignalId.{SignalId}
-use Rattle.build_operators.specs.OperandSorts.{fits, kind_of}
+use Rattle.build_expressions.specs.OperandSorts.{fits, kind_of}
 use Rattle.laws_sound_runs.specs.Kinds.{FitsPlace}
 use Rattle.sdl_system.specs.Behaviour.{ContinuousSignal, Response, StateMeaning, input, priority_input, save}
 use Rattle.sdl_system.specs.System.{SystemValue}

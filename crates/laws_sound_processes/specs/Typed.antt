@@ -2,7 +2,7 @@
 -- decision, nextstate).
 use Rattle.std.specs.Prelude.{◌≡◌, ℕ, All, IfSome, List, None, Some, length, slice_get}
 use Rattle.build_statements.specs.Contexts.{Context, state_in}
-use Rattle.build_operators.specs.declared.operand_sort.OperandSort.{OperandSort}
+use Rattle.build_expressions.specs.declared.operand_sort.OperandSort.{OperandSort}
 use Rattle.laws_sound_runs.specs.Paths.{Every}
 use Rattle.laws_sound_runs.specs.Kinds.{FitPlaces, FitsPlace, HasKind}
 use Rattle.laws_sound_runs.specs.Scopes.{IsSoundScope, parameter_sorts}

@@ -4,15 +4,15 @@ use Rattle.port_values.specs.declared.item.SignalId.{SignalId}
 use Rattle.port_values.specs.declared.pid.Pid.TheVariants.{Null}
 use Rattle.port_values.specs.declared.value.Value.TheVariants as value
 use Rattle.build_expressions.specs.Contexts.{allows_instance, allows_word}
-use Rattle.build_operators.specs.OperandSorts.{fits, kind_of, result_of, unary_result_of}
+use Rattle.build_expressions.specs.OperandSorts.{fits, kind_of, result_of, unary_result_of}
 use Rattle.build_expressions.specs.Partial.{both}
 use Rattle.build_expressions.specs.Scope.{Scope, SignalMeaning, signal, timer, signal_in, value_in}
 use Rattle.build_expressions.specs.Typing.{Argument, Typed, active_term, active_typed, activity, are_taken, argument_in, argument_terms, arguments_in, binary_typed, chain_typed, is_taken, joined_by, name_typed, of_variable as typed_variable, taken_term, term_in, typed_in, unary_typed, with_operation, word_typed}
 use Rattle.build_expressions.specs.declared.context.Context as contexts
-use Rattle.build_operators.specs.declared.operand_sort.OperandSort.{OperandSort}
-use Rattle.build_operators.specs.declared.operand_sort.OperandSort.TheVariants.{Free, Boolean, Pid}
-use Rattle.build_operators.specs.declared.operator.TypedOperation.{TypedOperation}
-use Rattle.build_operators.specs.declared.operator.TypedUnaryOperation.{TypedUnaryOperation}
+use Rattle.build_expressions.specs.declared.operand_sort.OperandSort.{OperandSort}
+use Rattle.build_expressions.specs.declared.operand_sort.OperandSort.TheVariants.{Free, Boolean, Pid}
+use Rattle.build_expressions.specs.declared.operator.TypedOperation.{TypedOperation}
+use Rattle.build_expressions.specs.declared.operator.TypedUnaryOperation.{TypedUnaryOperation}
 use Rattle.build_expressions.specs.declared.scope.Constant.TheVariants as constants
 use Rattle.build_expressions.specs.declared.scope.ValueMeaning.{ValueMeaning}
 use Rattle.build_expressions.specs.declared.scope.ValueMeaning.TheVariants as meant

@@ -3,7 +3,7 @@ use Rattle.std.proofs.Common.{◌≡◌, List, length, refl, ap, sym, suc}
 use Rattle.std.proofs.lemmas.Option.{slice_get_within}
 use Rattle.laws_sound_runs.specs.Kinds.{FitPlaces, HasKind, and_place, no_place, of_binary, of_now, of_pid, of_timer, of_unary, of_value, of_variable}
 use Rattle.laws_sound_runs.specs.TermLaws.{FittingTermsAreSound, KindedTermsAreSound}
-use Rattle.build_operators.specs.declared.operand_sort.OperandSort.{OperandSort}
+use Rattle.build_expressions.specs.declared.operand_sort.OperandSort.{OperandSort}
 use Rattle.sdl_system.specs.Soundness.{AreSoundTerms, IsSoundTerm, count_terms}
 use Rattle.sdl_system.specs.System.{SystemValue}
 use Rattle.sdl_system.specs.Term.{Term, Terms}

@@ -7,11 +7,11 @@ use Rattle.run_evaluation.specs.Environment.{Environment}
 use Rattle.run_evaluation.specs.Value.{accessed, asked, given, keyed, operated, operated_on, value_of, values_of}
 use Rattle.run_evaluation.specs.Variables.{value_in}
 use Rattle.run_record.specs.declared.failure.Failure.{Failure}
-use Rattle.build_operators.specs.OperandSorts.{added, compared, fits, joined, kind_of, ordered, result_of, scaled, subtracted, unary_result_of}
-use Rattle.build_operators.specs.declared.operand_sort.OperandSort.{OperandSort}
-use Rattle.build_operators.specs.declared.operand_sort.OperandSort.TheVariants.{Free, Integer, Time, Duration, Boolean, Pid}
-use Rattle.build_operators.specs.declared.operator.TypedOperation.{TypedOperation}
-use Rattle.build_operators.specs.declared.operator.TypedUnaryOperation.{TypedUnaryOperation}
+use Rattle.build_expressions.specs.OperandSorts.{added, compared, fits, joined, kind_of, ordered, result_of, scaled, subtracted, unary_result_of}
+use Rattle.build_expressions.specs.declared.operand_sort.OperandSort.{OperandSort}
+use Rattle.build_expressions.specs.declared.operand_sort.OperandSort.TheVariants.{Free, Integer, Time, Duration, Boolean, Pid}
+use Rattle.build_expressions.specs.declared.operator.TypedOperation.{TypedOperation}
+use Rattle.build_expressions.specs.declared.operator.TypedUnaryOperation.{TypedUnaryOperation}
 use Rattle.laws_sound_runs.specs.Kinds.{HasKind, has_kind, of_binary, of_now, of_pid, of_timer, of_unary, of_value, of_variable}
 use Rattle.laws_sound_runs.specs.TermLaws.{HaveSorts, StaysWhatItIs, ValuesHaveKinds}
 use Rattle.sdl_system.specs.Operation.{applied, applied_to_one, calculated, number_in, number_of, ranged, unsorted}

@@ -1,6 +1,6 @@
 -- When what names stand for is there, in a process of a system.
 use Rattle.std.specs.Prelude.{◌≡◌, ℕ, true, List, Option, None, Some, IfSome, length, map, slice_get, take}
-use Rattle.build_operators.specs.OperandSorts.{kind_of}
+use Rattle.build_expressions.specs.OperandSorts.{kind_of}
 use Rattle.build_expressions.specs.Scope as names
 use Rattle.build_expressions.specs.Scope.{AgentMeaning, Scope, SignalMeaning, agent_in, signal_in, value_in}
 use Rattle.build_expressions.specs.declared.scope.Constant.{Constant}

@@ -4,11 +4,11 @@ use Rattle.port_values.specs.declared.value.Value.{Value}
 use Rattle.run_evaluation.specs.Environment.{Environment}
 use Rattle.run_evaluation.specs.Value.{value_of}
 use Rattle.run_evaluation.specs.Variables.{VariableList, value_in}
-use Rattle.build_operators.specs.OperandSorts.{fits}
+use Rattle.build_expressions.specs.OperandSorts.{fits}
 use Rattle.build_expressions.specs.Scope.{Scope}
 use Rattle.build_expressions.specs.Typing.{Typed, argument_in, taken_term, taken_terms, typed_in}
 use Rattle.build_expressions.specs.declared.context.Context.{Context}
-use Rattle.build_operators.specs.declared.operand_sort.OperandSort.{OperandSort}
+use Rattle.build_expressions.specs.declared.operand_sort.OperandSort.{OperandSort}
 use Rattle.laws_sound_runs.specs.Kinds.{FitPlaces, FitsPlace, HasKind, has_kind}
 use Rattle.laws_sound_runs.specs.Scopes.{IsSoundScope}
 use Rattle.sdl_system.specs.Operation.{unsorted}

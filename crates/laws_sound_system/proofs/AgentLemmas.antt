@@ -4,9 +4,9 @@ use Rattle.std.proofs.lemmas.List.{length-map, take-map, take_at}
 use Rattle.build_definitions.specs.Rows.{AgentRow, ProcessRow}
 use Rattle.build_definitions.specs.declared.entries.Agent.{Agent}
 use Rattle.build_definitions.specs.declared.entries.Agent.TheVariants as agent
-use Rattle.build_names.specs.Entries.{Entry}
-use Rattle.build_names.specs.Meanings.{agent_entry, agent_means, sorts_of_row}
-use Rattle.build_faults.specs.FaultLaws.{Each}
+use Rattle.build_definitions.specs.Entries.{Entry}
+use Rattle.build_definitions.specs.Meanings.{agent_entry, agent_means, sorts_of_row}
+use Rattle.build_names.specs.FaultLaws.{Each}
 use Rattle.build_expressions.specs.Scope as names
 use Rattle.build_expressions.specs.Scope.{AgentMeaning}
 use Rattle.laws_sound_system.proofs.VariableLemmas.{sort_meant}

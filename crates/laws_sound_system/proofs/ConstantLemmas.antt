@@ -11,11 +11,11 @@ use Rattle.build_definitions.specs.Parts.{Part, OfBlock, OfProcess, OfChannel, O
 use Rattle.build_definitions.specs.Rows.{SynonymRow, ValueRow, after_synonyms, after_variables, placed_synonyms, synonym_row, synonym_values, synonyms_of, value_rows, values_of, variable_rows}
 use Rattle.build_constants.proofs.SynonymLemmas.{faults-of}
 use Rattle.build_constants.specs.Synonyms.{IsSynonym, faults_in_row}
-use Rattle.build_names.specs.declared.symbol_table.SymbolTable.{SymbolTable}
-use Rattle.build_faults.proofs.FaultLemmas.{each-both}
-use Rattle.build_faults.specs.FaultLaws.{Each, In}
-use Rattle.build_faults.specs.Faults.{fault_if}
-use Rattle.build_faults.specs.declared.fault.Rule.TheVariants.{BadCount}
+use Rattle.build_definitions.specs.declared.symbols.symbol_table.SymbolTable.{SymbolTable}
+use Rattle.build_names.proofs.FaultLemmas.{each-both}
+use Rattle.build_names.specs.FaultLaws.{Each, In}
+use Rattle.build_names.specs.Faults.{fault_if}
+use Rattle.build_names.specs.declared.faults.fault.Rule.TheVariants.{BadCount}
 use Rattle.build_expressions.specs.Constants.{constant_faults, constant_in, counted, counted_faults, is_miscounted, value_of, with_value}
 use Rattle.build_expressions.specs.Misused.{place_faults}
 use Rattle.build_expressions.specs.Scope.{Scope, constant_at}
@@ -29,9 +29,9 @@ use Rattle.build_expressions.specs.declared.scope.ValueEntry.{ValueEntry}
 use Rattle.build_expressions.specs.declared.scope.ValueEntry.TheVariants as entry
 use Rattle.laws_sound_runs.proofs.ValueLemmas.{sort-kind}
 use Rattle.laws_sound_runs.specs.Scopes.{IsSoundConstant}
-use Rattle.build_scopes.specs.declared.scope.ScopeId.{ScopeId}
-use Rattle.build_synonyms.specs.Synonyms.{Settles, constant_of, scope_with, synonym_faults}
-use Rattle.build_synonyms.specs.declared.synonym.Synonym.{Synonym}
+use Rattle.build_names.specs.declared.scopes.scope.ScopeId.{ScopeId}
+use Rattle.build_constants.specs.SynonymsSynonyms.{Settles, constant_of, scope_with, synonym_faults}
+use Rattle.build_constants.specs.declared.synonyms.synonym.Synonym.{Synonym}
 use Rattle.sdl_system.proofs.OperationLemmas.{takes_sort}
 use Rattle.sdl_system.specs.Sort.{as_sort, has_sort}
 use Rattle.sdl_system.specs.declared.sort.Sort.{Sort}

@@ -8,8 +8,8 @@ use Rattle.port_values.specs.declared.value.Value.{Value}
 use Rattle.sdl_build.proofs.MadeLemmas.{get-below}
 use Rattle.sdl_build.proofs.WholeLemmas.{faultless}
 use Rattle.sdl_build.specs.Built.{IsBuilt}
-use Rattle.build_context.specs.Headings.{IsBound, IsInitial, IsMaximum, value_in, variable_in, variable_of, variable_sort, variables_in}
-use Rattle.build_context.specs.Context.{Context}
+use Rattle.sdl_build.specs.Headings.{IsBound, IsInitial, IsMaximum, value_in, variable_in, variable_of, variable_sort, variables_in}
+use Rattle.sdl_build.specs.Context.{Context}
 use Rattle.laws_complete.proofs.AnswerLemmas.{constant-given}
 use Rattle.laws_complete.proofs.EmptyLemmas.{left-empty, not-broken, right-empty}
 use Rattle.laws_complete.proofs.SeenLemmas.{scopes-complete}
@@ -22,13 +22,13 @@ use Rattle.build_definitions.specs.Rows.{ProcessRow, ValueRow}
 use Rattle.build_definitions.specs.Definitions.{Rows}
 use Rattle.build_constants.specs.ConstantTable.{counts_at, counts_faults_at, duration_faults_at, initial_at, initial_faults_at, sort_of_entry}
 use Rattle.build_constants.specs.Scopes.{scope_in}
-use Rattle.build_names.specs.declared.symbol_table.SymbolTable.{SymbolTable}
+use Rattle.build_definitions.specs.declared.symbols.symbol_table.SymbolTable.{SymbolTable}
 use Rattle.run_semantics.specs.Instance.{first_store}
 use Rattle.run_semantics.specs.ControlPoint.{AtStart}
-use Rattle.build_faults.proofs.FaultLemmas.{each-both}
-use Rattle.build_faults.specs.FaultLaws.{Each}
-use Rattle.build_faults.specs.Faults.{fault_if, mark_word}
-use Rattle.build_faults.specs.declared.fault.Rule.TheVariants.{BadCount}
+use Rattle.build_names.proofs.FaultLemmas.{each-both}
+use Rattle.build_names.specs.FaultLaws.{Each}
+use Rattle.build_names.specs.Faults.{fault_if, mark_word}
+use Rattle.build_names.specs.declared.faults.fault.Rule.TheVariants.{BadCount}
 use Rattle.build_expressions.specs.Constants.{constant_faults, constant_in}
 use Rattle.build_expressions.specs.Scope.{Scope}
 use Rattle.build_expressions.specs.declared.scope.Constant.{Constant}
@@ -43,7 +43,7 @@ use Rattle.laws_sound_system.proofs.WalkLemmas.{scope_of_process, the_process}
 use Rattle.laws_sound_system.specs.Laws.{BuiltRunsHaveSorts, HeadingsAreSound}
 use Rattle.laws_sound_runs.proofs.SortLemmas.{runs-keep-sorts, starts-with-sorts}
 use Rattle.laws_sound_runs.specs.Sorts.{HaveInitials}
-use Rattle.build_scopes.specs.Spaces.{is_same_scope}
+use Rattle.build_names.specs.Spaces.{is_same_scope}
 use Rattle.sdl_system.specs.Behaviour.{Behaviour, VariableMeaning, variable_meaning}
 use Rattle.sdl_system.specs.Operation.{number_of}
 use Rattle.sdl_system.specs.Sort.{has_sort}

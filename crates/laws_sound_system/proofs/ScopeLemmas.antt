@@ -12,11 +12,11 @@ use Rattle.build_definitions.specs.Rows.{ProcessRow, ValueRow}
 use Rattle.build_definitions.specs.Definitions.{Rows, path_of}
 use Rattle.build_constants.specs.ConstantTable.{all_durations, duration_at}
 use Rattle.build_constants.specs.Scopes.{scope_in}
-use Rattle.build_names.specs.Entries.{Entry, entries_in, entry_in}
-use Rattle.build_names.specs.Meanings.{agent_entries, signal_entries, value_entries, value_entry}
-use Rattle.build_names.specs.declared.symbol_table.SymbolTable.{SymbolTable}
-use Rattle.build_faults.specs.FaultLaws.{Each}
-use Rattle.build_scopes.specs.Names.{first_of}
+use Rattle.build_definitions.specs.Entries.{Entry, entries_in, entry_in}
+use Rattle.build_definitions.specs.Meanings.{agent_entries, signal_entries, value_entries, value_entry}
+use Rattle.build_definitions.specs.declared.symbols.symbol_table.SymbolTable.{SymbolTable}
+use Rattle.build_names.specs.FaultLaws.{Each}
+use Rattle.build_names.specs.Names.{first_of}
 use Rattle.build_expressions.specs.Scope.{agent_meaning, meaning, signal_meaning, value_meaning}
 use Rattle.build_expressions.specs.declared.scope.Constant.{Constant}
 use Rattle.build_expressions.specs.declared.scope.ValueEntry.{ValueEntry}
@@ -27,9 +27,9 @@ use Rattle.laws_sound_system.proofs.SignalLemmas.{mapped-back, signals-sound}
 use Rattle.laws_sound_system.proofs.VariableLemmas.{IsPlaced, IsPlacedRow, all-placed, sorts_in}
 use Rattle.laws_sound_system.proofs.WalkLemmas.{processes_before, scope_of_process, the_process, tree-walk, walk-agents, walk-long, walk-timed}
 use Rattle.laws_sound_runs.specs.Scopes.{IsSoundAgent, IsSoundScope, IsSoundSignal, IsSoundValue}
-use Rattle.build_scopes.specs.Spaces.{block_names, entry_if, is_same_scope, names_of, process_names, seen_in}
-use Rattle.build_scopes.specs.declared.scope.ScopeId.{ScopeId}
-use Rattle.build_scopes.specs.declared.scope.ScopeId.TheVariants as scope
+use Rattle.build_names.specs.Spaces.{block_names, entry_if, is_same_scope, names_of, process_names, seen_in}
+use Rattle.build_names.specs.declared.scopes.scope.ScopeId.{ScopeId}
+use Rattle.build_names.specs.declared.scopes.scope.ScopeId.TheVariants as scope
 use Rattle.sdl_system.specs.System.{SystemValue}
 use Rattle.sdl_system.specs.declared.id.BlockId.{BlockId}
 use Rattle.sdl_system.specs.declared.process.Process.{Process}

@@ -7,14 +7,14 @@ use Rattle.sdl_build.specs.Signals.{known_sort, signal_from, signal_of, signals_
 use Rattle.sdl_build.specs.Signals as made
 use Rattle.laws_complete.specs.Complete.{AreThere}
 use Rattle.build_definitions.specs.Rows.{SignalKind, OrdinarySignal, OrdinaryTimer, SignalRow}
-use Rattle.build_names.specs.Entries.{Entry}
-use Rattle.build_names.specs.Meanings.{signal_means}
-use Rattle.build_names.specs.Meanings as names
-use Rattle.build_faults.specs.FaultLaws.{Each}
+use Rattle.build_definitions.specs.Entries.{Entry}
+use Rattle.build_definitions.specs.Meanings.{signal_means}
+use Rattle.build_definitions.specs.Meanings as names
+use Rattle.build_names.specs.FaultLaws.{Each}
 use Rattle.build_expressions.specs.Scope.{SignalMeaning}
 use Rattle.laws_sound_system.proofs.WalkLemmas.{IsTimed, IsTimedRow, the_process}
 use Rattle.laws_sound_runs.specs.Scopes.{IsSoundSignal}
-use Rattle.build_scopes.specs.declared.scope.ScopeId.{ScopeId}
+use Rattle.build_names.specs.declared.scopes.scope.ScopeId.{ScopeId}
 use Rattle.sdl_system.specs.System.{SystemValue}
 use Rattle.sdl_system.specs.declared.signal.Signal.{Signal}
 use Rattle.sdl_system.specs.declared.sort.Sort.{Sort}

@@ -12,12 +12,12 @@ use Rattle.sdl_build.proofs.WholeLemmas.{faultless, told-none}
 use Rattle.sdl_build.specs.Built.{IsBuilt, IsSystem, named_processes, own_from}
 use Rattle.sdl_build.specs.Faulty.{NotesBodies}
 use Rattle.sdl_build.specs.Faulty as notes
-use Rattle.build_context.specs.Headings.{IsInitial, IsMaximum, variables_in}
+use Rattle.sdl_build.specs.Headings.{IsInitial, IsMaximum, variables_in}
 use Rattle.sdl_build.specs.Laws.{CanRun}
 use Rattle.sdl_build.specs.Signals.{signal_of, signals_from, timer_at, timer_of}
 use Rattle.sdl_build.specs.Signals as made
-use Rattle.build_context.specs.ProcessScope.{numbered_states, process_scope}
-use Rattle.build_context.specs.Context.{Context}
+use Rattle.sdl_build.specs.ProcessScope.{numbered_states, process_scope}
+use Rattle.sdl_build.specs.Context.{Context}
 use Rattle.laws_complete.proofs.SortLemmas.{sorts-given}
 use Rattle.laws_complete.proofs.NameLemmas.{EachMeans}
 use Rattle.laws_complete.specs.Complete.{IsThere}
@@ -25,17 +25,17 @@ use Rattle.laws_complete.specs.Names.{rows_of_tree}
 use Rattle.build_definitions.specs.Parts.{parts_in}
 use Rattle.build_definitions.specs.Rows.{OrdinarySignal, OrdinaryTimer, ProcessRow, SignalKind, SignalRow, ValueRow}
 use Rattle.build_definitions.specs.Definitions.{Rows}
-use Rattle.flow_paths.specs.Beginnings.{beginnings}
-use Rattle.flow_paths.specs.Reach.{AreReached}
+use Rattle.build_flow.specs.Beginnings.{beginnings}
+use Rattle.build_flow.specs.Reach.{AreReached}
 use Rattle.build_constants.specs.ConstantTable.{all_durations, all_initials, counts_at, duration_at, initial_at, sort_of_entry}
 use Rattle.build_constants.specs.Scopes.{scope_in}
-use Rattle.build_names.specs.declared.symbol_table.SymbolTable.{SymbolTable}
+use Rattle.build_definitions.specs.declared.symbols.symbol_table.SymbolTable.{SymbolTable}
 use Rattle.build_process.specs.Faulty.{body_faults}
 use Rattle.build_process.specs.ProcessScope.{for_stimuli}
-use Rattle.build_faults.specs.FaultLaws.{Each}
-use Rattle.build_faults.specs.Faults.{Diagnostic}
-use Rattle.build_labels.specs.States.{different, state_names}
-use Rattle.build_scopes.specs.Names.{first_of}
+use Rattle.build_names.specs.FaultLaws.{Each}
+use Rattle.build_names.specs.Faults.{Diagnostic}
+use Rattle.build_names.specs.States.{different, state_names}
+use Rattle.build_names.specs.Names.{first_of}
 use Rattle.build_expressions.specs.declared.scope.Constant.{Constant}
 use Rattle.laws_sound_system.proofs.AgentLemmas.{meant-sorts}
 use Rattle.laws_sound_system.proofs.ScopeLemmas.{IsOfRows, counted, scope-sound}
@@ -45,12 +45,12 @@ use Rattle.laws_sound_system.specs.Laws.{BuiltProcessesAreSound, BuiltRunsLeadTo
 use Rattle.laws_sound_runs.proofs.CauseLemmas.{undefined-is-unassigned}
 use Rattle.laws_sound_processes.proofs.BehaviourLemmas.{behaviours-are-sound}
 use Rattle.laws_sound_runs.specs.Scopes.{IsSoundScope}
-use Rattle.build_scopes.specs.Spaces.{entry_if, is_same_scope}
-use Rattle.build_scopes.specs.declared.scope.ScopeId.{ScopeId}
-use Rattle.build_scopes.specs.declared.scope.ScopeId.TheVariants as scope
+use Rattle.build_names.specs.Spaces.{entry_if, is_same_scope}
+use Rattle.build_names.specs.declared.scopes.scope.ScopeId.{ScopeId}
+use Rattle.build_names.specs.declared.scopes.scope.ScopeId.TheVariants as scope
 use Rattle.build_network.specs.Numbered.{numbered}
 use Rattle.build_states.specs.States.{names_in, state_of}
-use Rattle.build_stimuli.specs.Reading.{process_read}
+use Rattle.build_states.specs.Reading.{process_read}
 use Rattle.sdl_system.specs.Behaviour.{MeansState, variable_meaning}
 use Rattle.sdl_system.specs.Route.{receivers}
 use Rattle.sdl_system.specs.Soundness.{IsProcess}
@@ -59,7 +59,7 @@ use Rattle.sdl_system.specs.declared.id.ProcessId.{ProcessId}
 use Rattle.sdl_system.specs.declared.id.StateId.{StateId}
 use Rattle.sdl_system.specs.declared.process.Process.{Process}
 use Rattle.sdl_system.specs.declared.signal.Signal.{Signal}
-use Rattle.build_state_tables.specs.Meant.{IsMeaning}
+use Rattle.build_tables.specs.Meant.{IsMeaning}
 use Rattle.sdl_tree.specs.Tree.{Tree}
 use Rattle.sdl_tree.specs.Words.{Spot}
 

@@ -4,20 +4,20 @@ use Rattle.std.proofs.Common.{◌≡◌, ◌∙◌, ◌++◌, ◌+◌, ◌==◌,
 use Rattle.std.proofs.lemmas.Bool.{eq-eqb, eqb-true}
 use Rattle.std.proofs.lemmas.Grind.{flat_map-append}
 use Rattle.std.proofs.lemmas.List.{append_assoc, length-append, length-map}
-use Rattle.build_context.specs.Headings.{variable_in, variable_of, variable_sort, variables_in}
+use Rattle.sdl_build.specs.Headings.{variable_in, variable_of, variable_sort, variables_in}
 use Rattle.laws_complete.specs.Complete.{IsThere}
 use Rattle.build_definitions.specs.Parts.{Part, OfBlock, OfProcess, OfChannel, OfConnection, OfSignals, OfTimers, OfSignalList, OfSynonyms, OfSignalSet, OfParameters, OfVariables, Placed, groups_of, parameter_part, placed}
 use Rattle.build_definitions.specs.Rows.{ProcessRow, ValueRow, after_synonyms, after_variables, group_sorts, process_row, repeated, synonym_values, value_rows, values_of, variable_rows}
 use Rattle.build_definitions.specs.Sorts.{sort_at}
 use Rattle.build_constants.specs.ConstantTable.{sort_of_entry}
-use Rattle.build_faults.proofs.FaultLemmas.{each-both}
-use Rattle.build_faults.specs.FaultLaws.{Each}
+use Rattle.build_names.proofs.FaultLemmas.{each-both}
+use Rattle.build_names.specs.FaultLaws.{Each}
 use Rattle.build_expressions.specs.declared.scope.Constant.{Constant}
 use Rattle.build_expressions.specs.declared.scope.ValueEntry.{ValueEntry}
 use Rattle.build_expressions.specs.declared.scope.ValueEntry.TheVariants as entry
 use Rattle.laws_sound_system.proofs.WalkLemmas.{IsOwn, IsPlain, Walk, nothing, own, own-rows, parameters_of, plain, plain-rows, process, rows_among, scope_of_process, the_process}
-use Rattle.build_scopes.specs.Spaces.{is_same_scope}
-use Rattle.build_scopes.specs.declared.scope.ScopeId.{ScopeId}
+use Rattle.build_names.specs.Spaces.{is_same_scope}
+use Rattle.build_names.specs.declared.scopes.scope.ScopeId.{ScopeId}
 use Rattle.sdl_system.specs.Behaviour.{VariableMeaning}
 use Rattle.sdl_system.specs.declared.sort.Sort.{Sort}
 use Rattle.sdl_tree.specs.Tree.{Expr, ParameterGroup, ProcessDefinition, SynonymDefinition}

@@ -6,10 +6,10 @@ use Rattle.build_definitions.specs.Parts.{Part, OfBlock, OfProcess, OfChannel, O
 use Rattle.build_definitions.specs.Rows.{AgentRow, ProcessRow, SignalKind, OrdinarySignal, OrdinaryTimer, SignalRow, placed_agents, placed_processes, placed_signals}
 use Rattle.build_definitions.specs.declared.entries.Agent.{Agent}
 use Rattle.build_definitions.specs.declared.entries.Agent.TheVariants as agent
-use Rattle.build_faults.proofs.FaultLemmas.{each-both}
-use Rattle.build_faults.specs.FaultLaws.{Each}
-use Rattle.build_scopes.specs.declared.scope.ScopeId.{ScopeId}
-use Rattle.build_scopes.specs.declared.scope.ScopeId.TheVariants as scope
+use Rattle.build_names.proofs.FaultLemmas.{each-both}
+use Rattle.build_names.specs.FaultLaws.{Each}
+use Rattle.build_names.specs.declared.scopes.scope.ScopeId.{ScopeId}
+use Rattle.build_names.specs.declared.scopes.scope.ScopeId.TheVariants as scope
 use Rattle.sdl_system.specs.declared.id.BlockId.{BlockId}
 use Rattle.sdl_system.specs.declared.id.ProcessId.{ProcessId}
 use Rattle.sdl_tree.specs.Tree as written

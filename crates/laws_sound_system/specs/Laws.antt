@@ -6,13 +6,13 @@ use Rattle.port_values.specs.declared.item.SignalId.{SignalId}
 use Rattle.port_values.specs.declared.value.Value.{Value}
 use Rattle.sdl_build.specs.Built.{IsBuilt}
 use Rattle.sdl_build.specs.Laws.{CanRun}
-use Rattle.build_context.specs.ProcessScope.{process_scope}
-use Rattle.route_network.specs.declared.network.Source.{Source}
+use Rattle.sdl_build.specs.ProcessScope.{process_scope}
+use Rattle.build_routes.specs.declared.network.joined.Source.{Source}
 use Rattle.run_evaluation.specs.declared.identity.Identity.{Identity}
 use Rattle.run_evaluation.specs.declared.store.Store.{Store}
 use Rattle.build_process.specs.Meant.{IsBehaviour}
 use Rattle.run_record.specs.declared.failure.Failure.TheVariants.{Undefined}
-use Rattle.route_table.specs.Table.{SendsFrom}
+use Rattle.build_routes.specs.Table.{SendsFrom}
 use Rattle.run_semantics.specs.Effect.{Deed}
 use Rattle.run_semantics.specs.Fails.{HasCause}
 use Rattle.run_semantics.specs.Instance.{first_store}

@@ -4,7 +4,7 @@ use build_definitions::{
     Agent, AgentEntry, Definitions, ProcessEntry, SignalEntry, SignalKind, ValueName,
 };
 use build_expressions::ValueEntry;
-use build_scopes::ScopeId;
+use build_names::ScopeId;
 use std::alloc::{AllocError, Global};
 
 /// The names that are seen in a scope: its own, and those of the scopes around it.

@@ -1,8 +1,7 @@
 //! The sorts of expressions, as far as they are known.
 
 use crate::names::Names;
-use build_expressions::ValueEntry;
-use build_operators::{OperandSort, result_of, unary_result_of};
+use build_expressions::{OperandSort, ValueEntry, result_of, unary_result_of};
 use sdl_system::Sort;
 use sdl_tree::{Chain, Expression, KeywordValue, Link};
 

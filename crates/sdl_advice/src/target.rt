@@ -1,7 +1,7 @@
 //! Advice on a state or a label to which nothing leads.
 
 use build_definitions::Definitions;
-use build_faults::Rule;
+use build_names::Rule;
 use explain_lines::{Advice, Nearest, lowered};
 use sdl_lex::Place;
 use sdl_system::ProcessId;

@@ -5,7 +5,7 @@ use crate::names::Names;
 use crate::target::target_advice;
 use crate::unknown::unknown_advice;
 use build_definitions::Definitions;
-use build_faults::{Faults, Rule};
+use build_names::{Faults, Rule};
 use explain_lines::Advice;
 use explain_sites::{Site, What, sites_of};
 use sdl_tree::{Name, Tree};

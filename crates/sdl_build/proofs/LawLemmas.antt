@@ -7,12 +7,12 @@ use Rattle.port_values.specs.declared.item.SignalId.{SignalId}
 use Rattle.sdl_build.specs.Built.{IsSystem, IsTold}
 use Rattle.sdl_build.specs.Laws.{ProcessesCanRun}
 use Rattle.sdl_build.specs.Signals.{signal_of, signals_from}
-use Rattle.build_context.specs.Lists.{AreMembers}
-use Rattle.build_context.specs.ProcessScope.{process_scope}
-use Rattle.build_context.specs.Context.{IsResolved, AreConnections, Context, resolved_of}
+use Rattle.sdl_build.specs.Lists.{AreMembers}
+use Rattle.sdl_build.specs.ProcessScope.{process_scope}
+use Rattle.sdl_build.specs.Context.{IsResolved, AreConnections, Context, resolved_of}
 use Rattle.sdl_build.proofs.MadeLemmas.{get-below, same-one}
 use Rattle.sdl_build.proofs.WholeLemmas.{faultless, is-given}
-use Rattle.route_network.specs.declared.network.Network.{Network}
+use Rattle.build_routes.specs.declared.network.joined.Network.{Network}
 use Rattle.laws_complete.proofs.ProcessLemmas.{behaviour-given}
 use Rattle.laws_complete.proofs.SeenLemmas.{signals-below}
 use Rattle.laws_complete.specs.Names.{number_of_signal}
@@ -23,11 +23,11 @@ use Rattle.build_definitions.specs.Rows.{SignalRow}
 use Rattle.build_constants.specs.ConstantTable.{all_durations, duration_at}
 use Rattle.build_constants.specs.Scopes.{scope_in}
 use Rattle.build_process.specs.ProcessScope.{for_stimuli}
-use Rattle.build_scopes.specs.Names.{first_of}
+use Rattle.build_names.specs.Names.{first_of}
 use Rattle.build_expressions.specs.Scope.{SignalMeaning, meaning, signal, signal_in, timer}
-use Rattle.build_scopes.specs.declared.scope.ScopeId.TheVariants as scope
-use Rattle.build_stimuli.specs.Context.{members_of}
-use Rattle.build_stimuli.specs.Mentions.{number_of}
+use Rattle.build_names.specs.declared.scopes.scope.ScopeId.TheVariants as scope
+use Rattle.build_states.specs.Context.{members_of}
+use Rattle.build_states.specs.Mentions.{number_of}
 use Rattle.sdl_system.specs.Soundness.{Keeps}
 use Rattle.sdl_system.specs.System.{SystemValue}
 use Rattle.sdl_tree.specs.Tree.{ProcessDefinition, Tree}

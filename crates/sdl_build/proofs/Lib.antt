@@ -1,6 +1,12 @@
+pub mod AroundLemmas
+pub mod ConnectionLemmas
 pub mod LawLemmas
+pub mod ListLemmas
 pub mod MadeLemmas
 pub mod OwnLemmas
+pub mod ProcessLemmas
 pub mod ResolveLemmas
+pub mod StateLemmas
 pub mod TableLemmas
+pub mod VariableLemmas
 pub mod WholeLemmas

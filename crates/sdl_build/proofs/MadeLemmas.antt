@@ -2,23 +2,23 @@
 use Rattle.std.proofs.Common.{◌≡◌, ◌∙◌, ◌+◌, ◌<◌, ◌++◌, ℕ, Bool, zero, suc, Contains, List, [], ◌∷◌, Option, None, Some, IfOk, OnOk, Result, Ok, Err, ap, arith, inl, inr, length, map, refl, slice_get, subst, sym}
 use Rattle.std.proofs.lemmas.Option.{slice_get-get_or}
 use Rattle.std.specs.Global.{Vec}
-use Rattle.build_context.specs.Processes.{IsMadeFrom}
+use Rattle.sdl_build.specs.Processes.{IsMadeFrom}
 use Rattle.sdl_build.specs.Made.{AreMade, AreProcessesOr, IsMadeAt, WholeList}
 use Rattle.sdl_build.specs.Faulty.{NotesAt, NotesBodies}
 use Rattle.sdl_build.specs.Faulty as notes
-use Rattle.build_context.proofs.ProcessLemmas.{length-map}
-use Rattle.build_context.specs.Headings.{IsValidSet}
-use Rattle.build_context.specs.ProcessScope.{process_scope}
-use Rattle.build_context.specs.Context.{IsNetwork, Context}
+use Rattle.sdl_build.proofs.ProcessLemmas.{length-map}
+use Rattle.sdl_build.specs.Headings.{IsValidSet}
+use Rattle.sdl_build.specs.ProcessScope.{process_scope}
+use Rattle.sdl_build.specs.Context.{IsNetwork, Context}
 use Rattle.build_definitions.specs.Rows.{ProcessRow}
 use Rattle.build_definitions.specs.Definitions.{Rows}
-use Rattle.build_names.specs.declared.symbol_table.SymbolTable.{SymbolTable}
+use Rattle.build_definitions.specs.declared.symbols.symbol_table.SymbolTable.{SymbolTable}
 use Rattle.build_network.specs.Numbered.{numbered}
 use Rattle.build_process.specs.Faulty.{NotesBody}
-use Rattle.build_faults.specs.Faults.{Diagnostic}
-use Rattle.route_table.proofs.TableLemmas.{get_push}
-use Rattle.route_table.specs.Valid.{AreValid}
-use Rattle.route_network.specs.declared.network.Network.{Network}
+use Rattle.build_names.specs.Faults.{Diagnostic}
+use Rattle.build_routes.proofs.TableLemmas.{get_push}
+use Rattle.build_routes.specs.Valid.{AreValid}
+use Rattle.build_routes.specs.declared.network.joined.Network.{Network}
 use Rattle.std.proofs.lemmas.Option.{none-some}
 use Rattle.sdl_system.specs.declared.id.ProcessId.{ProcessId}
 use Rattle.sdl_system.specs.declared.process.Process.{Process}

@@ -5,7 +5,7 @@ use Rattle.std.proofs.lemmas.Cmp.{nat_list_eq_equiv}
 use Rattle.std.proofs.lemmas.Map.Text.{hash_map_updates_text}
 use Rattle.std.proofs.lemmas.Slice.Eq.{bytes_eq-Decides}
 use Rattle.indexmap.specs.IndexMap.{IndexMap, Updates, get_by_text}
-use Rattle.build_scopes.specs.Names.{first_of}
+use Rattle.build_names.specs.Names.{first_of}
 use Rattle.sdl_system.proofs.NameLemmas.{lookup-named}
 use Rattle.sdl_system.specs.System.{meaning_of, named}
 

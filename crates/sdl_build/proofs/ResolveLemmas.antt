@@ -8,7 +8,7 @@ use Rattle.sdl_build.specs.Made.{AreProcessesOr, IsComposedIf}
 use Rattle.sdl_build.specs.Outcome.{IsMadeBehind, IsMadeOf, IsMadeOn, IsMadeWith, IsRefusedAs, Tells, is_limit, is_past_limit}
 use Rattle.sdl_build.specs.Outcome as outcome
 use Rattle.sdl_build.specs.Signals.{signals_from}
-use Rattle.build_context.specs.Context.{Resolved, AreConnections, Context, resolved_of}
+use Rattle.sdl_build.specs.Context.{Resolved, AreConnections, Context, resolved_of}
 use Rattle.sdl_build.specs.declared.error.BuildError.{BuildError}
 use Rattle.sdl_build.specs.declared.error.BuildError.TheVariants as error
 use Rattle.sdl_build.proofs.MadeLemmas.{same-one}
@@ -17,13 +17,13 @@ use Rattle.build_definitions.specs.Parts.{all_sort_faults, parts_in}
 use Rattle.build_definitions.specs.Definitions.{Rows, rows_in}
 use Rattle.build_constants.specs.ConstantTable.{all_durations, constant_table_faults}
 use Rattle.build_constants.specs.Synonyms.{AreSynonymConstants}
-use Rattle.build_names.specs.Meanings.{duplicate_faults}
-use Rattle.build_names.specs.Spaces.{AreNamesOf}
-use Rattle.build_faults.proofs.FaultLemmas.{both_noted}
-use Rattle.build_faults.specs.Faults.{Diagnostic, least_of}
+use Rattle.build_definitions.specs.Meanings.{duplicate_faults}
+use Rattle.build_definitions.specs.Spaces.{AreNamesOf}
+use Rattle.build_names.proofs.FaultLemmas.{both_noted}
+use Rattle.build_names.specs.Faults.{Diagnostic, least_of}
 use Rattle.build_limits.specs.Limits.{limit_faults}
-use Rattle.build_faults.specs.declared.fault.Rule.{Rule}
-use Rattle.build_faults.specs.declared.fault.Rule.TheVariants as rule
+use Rattle.build_names.specs.declared.faults.fault.Rule.{Rule}
+use Rattle.build_names.specs.declared.faults.fault.Rule.TheVariants as rule
 use Rattle.sdl_system.specs.System.{SystemValue}
 use Rattle.sdl_system.specs.declared.process.Process.{Process}
 use Rattle.sdl_tree.specs.Tree.{Tree}

@@ -5,8 +5,8 @@ use Rattle.std.proofs.lemmas.Option.{slice_get_within}
 use Rattle.sdl_build.specs.Built.{IsMissing, IsTold}
 use Rattle.sdl_build.specs.Faulty.{NotesBodies, definition_faults}
 use Rattle.sdl_build.specs.Faulty as notes
-use Rattle.build_context.specs.ProcessScope.{process_scope}
-use Rattle.build_context.specs.Context.{IsResolved, Context, resolved_of}
+use Rattle.sdl_build.specs.ProcessScope.{process_scope}
+use Rattle.sdl_build.specs.Context.{IsResolved, Context, resolved_of}
 use Rattle.sdl_build.proofs.MadeLemmas.{same-one}
 use Rattle.laws_complete.proofs.LabelLemmas.{labels-given}
 use Rattle.laws_complete.proofs.ProcessLemmas.{process-given}
@@ -20,15 +20,15 @@ use Rattle.build_definitions.specs.Definitions.{Rows}
 use Rattle.build_constants.specs.ConstantTable.{all_durations, constant_table_faults}
 use Rattle.build_constants.specs.Scopes.{scope_in}
 use Rattle.build_constants.specs.Synonyms.{AreSynonymConstants}
-use Rattle.build_names.specs.Meanings.{duplicate_faults}
-use Rattle.build_names.specs.Spaces.{AreNamesOf}
+use Rattle.build_definitions.specs.Meanings.{duplicate_faults}
+use Rattle.build_definitions.specs.Spaces.{AreNamesOf}
 use Rattle.build_network.specs.Network.{network_faults}
 use Rattle.build_process.specs.Faulty.{body_faults}
 use Rattle.build_process.specs.ProcessScope.{for_transitions}
-use Rattle.build_faults.proofs.FaultLemmas.{none_noted}
-use Rattle.build_faults.specs.Faults.{Diagnostic, least_of}
+use Rattle.build_names.proofs.FaultLemmas.{none_noted}
+use Rattle.build_names.specs.Faults.{Diagnostic, least_of}
 use Rattle.build_limits.specs.Limits.{limit_faults}
-use Rattle.build_scopes.specs.declared.scope.ScopeId.TheVariants as scope
+use Rattle.build_names.specs.declared.scopes.scope.ScopeId.TheVariants as scope
 use Rattle.sdl_tree.specs.Tree.{Tree}
 
 -- ---- nothing is told

@@ -3,17 +3,17 @@ use Rattle.std.specs.Prelude.{◌≡◌, ℕ, ◌+◌, ◌++◌, List, [], ◌�
 use Rattle.port_values.specs.declared.item.SignalId.{SignalId}
 use Rattle.sdl_build.specs.Faulty.{NotesRest, definition_faults}
 use Rattle.sdl_build.specs.Signals.{signal_of, signals_from}
-use Rattle.build_context.specs.Processes.{IsProcess}
-use Rattle.build_context.specs.ProcessScope.{process_scope}
-use Rattle.build_context.specs.Context.{IsResolved, Resolved, AreConnections, Context, resolved_of}
+use Rattle.sdl_build.specs.Processes.{IsProcess}
+use Rattle.sdl_build.specs.ProcessScope.{process_scope}
+use Rattle.sdl_build.specs.Context.{IsResolved, Resolved, AreConnections, Context, resolved_of}
 use Rattle.build_definitions.specs.Rows.{ProcessRow, SignalRow}
 use Rattle.build_constants.specs.ConstantTable.{all_durations}
 use Rattle.build_process.specs.Refused.{IsRefused}
-use Rattle.build_faults.specs.Faults.{Diagnostic, least_of}
-use Rattle.build_scopes.specs.Names.{first_of}
-use Rattle.build_faults.specs.declared.fault.Rule.TheVariants.{Limit}
-use Rattle.build_scopes.specs.Spaces.{entry_if, is_same_scope}
-use Rattle.build_scopes.specs.declared.scope.ScopeId.TheVariants as scope
+use Rattle.build_names.specs.Faults.{Diagnostic, least_of}
+use Rattle.build_names.specs.Names.{first_of}
+use Rattle.build_names.specs.declared.faults.fault.Rule.TheVariants.{Limit}
+use Rattle.build_names.specs.Spaces.{entry_if, is_same_scope}
+use Rattle.build_names.specs.declared.scopes.scope.ScopeId.TheVariants as scope
 use Rattle.sdl_system.specs.System.{SystemValue, meaning_of}
 use Rattle.sdl_system.specs.declared.id.ProcessId.{ProcessId}
 use Rattle.sdl_system.specs.declared.process.Process.{Process}

@@ -4,8 +4,8 @@ use Rattle.std.specs.String.{string_bytes}
 use Rattle.sdl_build.specs.declared.error.BuildError.{BuildError}
 use Rattle.sdl_build.specs.declared.error.BuildError.TheVariants as error
 use Rattle.sdl_lex.specs.Place.{place_text}
-use Rattle.build_faults.specs.declared.fault.Rule.{Rule}
-use Rattle.build_faults.specs.declared.fault.Rule.TheVariants.{Unknown, Duplicate, Sort, TwiceInState, NoState, NoLabel, NoRoute, BadCount, NoEnd, Limit}
+use Rattle.build_names.specs.declared.faults.fault.Rule.{Rule}
+use Rattle.build_names.specs.declared.faults.fault.Rule.TheVariants.{Unknown, Duplicate, Sort, TwiceInState, NoState, NoLabel, NoRoute, BadCount, NoEnd, Limit}
 
 -- the name of the rule that is broken
 abbrev pub rule_text : Rule → List ℕ

@@ -1,14 +1,14 @@
 -- The rules that are broken in a specification, each with the word where it is.
 use Rattle.std.specs.Prelude.{◌≡◌, ℕ, suc, zero, ◌++◌, List, Option, Some, length, slice_get}
-use Rattle.build_context.specs.ProcessScope.{process_scope}
-use Rattle.build_context.specs.Context.{Resolved, Context}
+use Rattle.sdl_build.specs.ProcessScope.{process_scope}
+use Rattle.sdl_build.specs.Context.{Resolved, Context}
 use Rattle.build_definitions.specs.Parts.{all_sort_faults}
 use Rattle.build_definitions.specs.Rows.{ProcessRow}
 use Rattle.build_constants.specs.ConstantTable.{constant_table_faults}
-use Rattle.build_names.specs.Meanings.{duplicate_faults}
+use Rattle.build_definitions.specs.Meanings.{duplicate_faults}
 use Rattle.build_network.specs.Network.{network_faults}
 use Rattle.build_process.specs.Faulty.{NotesBody}
-use Rattle.build_faults.specs.Faults.{Diagnostic, Notes}
+use Rattle.build_names.specs.Faults.{Diagnostic, Notes}
 use Rattle.build_limits.specs.Limits.{limit_faults}
 use Rattle.sdl_tree.specs.Tree.{Tree}
 

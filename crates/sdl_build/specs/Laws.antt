@@ -1,9 +1,9 @@
 -- What holds of each process of a system that is what a specification says.
 use Rattle.std.specs.Prelude.{◌≡◌, All, Some, length, slice_get}
 use Rattle.sdl_build.specs.Built.{IsBuilt}
-use Rattle.build_context.specs.Headings.{IsHeading}
-use Rattle.build_context.specs.ProcessScope.{process_scope}
-use Rattle.build_context.specs.Context.{Context}
+use Rattle.sdl_build.specs.Headings.{IsHeading}
+use Rattle.sdl_build.specs.ProcessScope.{process_scope}
+use Rattle.sdl_build.specs.Context.{Context}
 use Rattle.build_definitions.specs.Rows.{ProcessRow}
 use Rattle.build_process.specs.Made.{IsHeaded}
 use Rattle.build_process.specs.Meant.{IsBehaviour}

@@ -1,7 +1,13 @@
+pub mod Around
 pub mod Built
+pub mod Context
 pub mod ErrorText
 pub mod Faulty
+pub mod Headings
 pub mod Laws
+pub mod Lists
 pub mod Made
 pub mod Outcome
+pub mod ProcessScope
+pub mod Processes
 pub mod Signals

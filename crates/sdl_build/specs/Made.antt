@@ -2,12 +2,12 @@
 use Rattle.std.specs.Prelude.{◌≡◌, ℕ, ℤ, List, Option, None, Some, Contains, map, slice_get}
 use Rattle.std.specs.Global.{Vec}
 use Rattle.sdl_build.specs.Built.{AreProcesses, IsMissing, named_processes, own_from}
-use Rattle.build_context.specs.Processes.{IsMadeFrom}
+use Rattle.sdl_build.specs.Processes.{IsMadeFrom}
 use Rattle.sdl_build.specs.Signals.{signal_of, signals_from}
-use Rattle.build_context.specs.Context.{Context}
+use Rattle.sdl_build.specs.Context.{Context}
 use Rattle.build_definitions.specs.Rows.{ProcessRow}
 use Rattle.build_definitions.specs.Definitions.{Rows}
-use Rattle.build_scopes.specs.Names.{first_of}
+use Rattle.build_names.specs.Names.{first_of}
 use Rattle.sdl_system.specs.System.{SystemValue, meaning_of}
 use Rattle.sdl_system.specs.declared.id.ProcessId.{ProcessId}
 use Rattle.sdl_system.specs.declared.process.Process.{Process}

@@ -2,18 +2,18 @@
 use Rattle.std.specs.Prelude.{◌≡◌, Bool, true, false, List, Option, None, Some}
 use Rattle.sdl_build.specs.Built.{IsBroken, IsSystemOr, IsTold}
 use Rattle.sdl_build.specs.Faulty.{NotesRest}
-use Rattle.build_context.specs.Context.{IsResolved, Resolved, AreConnections, Context, resolved_of}
+use Rattle.sdl_build.specs.Context.{IsResolved, Resolved, AreConnections, Context, resolved_of}
 use Rattle.sdl_build.specs.declared.error.BuildError.{BuildError}
 use Rattle.sdl_build.specs.declared.error.BuildError.TheVariants as error
 use Rattle.build_definitions.specs.Definitions.{Rows}
 use Rattle.build_constants.specs.ConstantTable.{constant_table_faults}
 use Rattle.build_constants.specs.Synonyms.{AreSynonymConstants}
-use Rattle.build_names.specs.Meanings.{duplicate_faults}
-use Rattle.build_names.specs.Spaces.{AreNamesOf}
-use Rattle.build_names.specs.declared.symbol_table.SymbolTable.{SymbolTable}
-use Rattle.build_faults.specs.Faults.{Diagnostic, least_of, diagnostic_at, Notes}
-use Rattle.build_faults.specs.declared.fault.Rule.{Rule}
-use Rattle.build_faults.specs.declared.fault.Rule.TheVariants.{Limit}
+use Rattle.build_definitions.specs.Meanings.{duplicate_faults}
+use Rattle.build_definitions.specs.Spaces.{AreNamesOf}
+use Rattle.build_definitions.specs.declared.symbols.symbol_table.SymbolTable.{SymbolTable}
+use Rattle.build_names.specs.Faults.{Diagnostic, least_of, diagnostic_at, Notes}
+use Rattle.build_names.specs.declared.faults.fault.Rule.{Rule}
+use Rattle.build_names.specs.declared.faults.fault.Rule.TheVariants.{Limit}
 use Rattle.build_expressions.specs.declared.scope.Constant.{Constant}
 use Rattle.sdl_system.specs.System.{SystemValue}
 use Rattle.sdl_tree.specs.Tree.{Tree}

@@ -1,8 +1,8 @@
 -- The signals and timers of a system (Z.101: signal; Z.102: timer).
 use Rattle.std.specs.Prelude.{ℕ, ℤ, List, [], ◌∷◌, Option, None, Some, flat_map, string_bytes}
 use Rattle.build_definitions.specs.Rows.{OrdinarySignal, OrdinaryTimer, SignalKind, SignalRow}
-use Rattle.build_scopes.specs.declared.scope.ScopeId.{ScopeId}
-use Rattle.build_scopes.specs.declared.scope.ScopeId.TheVariants as scope
+use Rattle.build_names.specs.declared.scopes.scope.ScopeId.{ScopeId}
+use Rattle.build_names.specs.declared.scopes.scope.ScopeId.TheVariants as scope
 use Rattle.sdl_system.specs.declared.signal.Signal as symbols
 use Rattle.sdl_system.specs.declared.signal.Timer.{Timer}
 use Rattle.sdl_system.specs.declared.sort.Sort.{Sort}

@@ -4,7 +4,7 @@ ghost use Rattle.std.specs.Prelude.{◌≡◌, ℕ, List, map, IfOk};
 ghost use Rattle.sdl_build.specs.Built.{named_processes, own_from};
 ghost use Rattle.sdl_build.specs.Signals.{signal_of, signals_from};
 ghost use Rattle.build_definitions.specs.Definitions.{rows_of};
-ghost use Rattle.build_scopes.specs.Names.{first_of};
+ghost use Rattle.build_names.specs.Names.{first_of};
 ghost use Rattle.sdl_system.specs.System.{meaning_of, named};
 
 use crate::own::{own_signals, process_names};

@@ -3,9 +3,9 @@
 ghost use Rattle.std.specs.Prelude.{◌≡◌, IfOk};
 ghost use Rattle.sdl_build.specs.ErrorText.{rule_text};
 ghost use Rattle.sdl_build.specs.Outcome.{Tells};
-ghost use Rattle.build_faults.specs.Faults.{diagnostic_of};
+ghost use Rattle.build_names.specs.Faults.{diagnostic_of};
 
-use build_faults::{Fault, Rule};
+use build_names::{Fault, Rule};
 use sdl_tree::Name;
 use std::alloc::{AllocError, Global};
 use std::error::Error;

@@ -5,6 +5,7 @@
 //! broken, and `specs/Built` when a system is what the specification says.
 #![tactic(auto)]
 
+mod context;
 mod defined;
 mod error;
 pub mod laws;

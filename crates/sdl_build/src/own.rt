@@ -4,13 +4,13 @@ ghost use Rattle.std.specs.Prelude.{◌≡◌, ℕ, List, [], ◌∷◌, map, If
 ghost use Rattle.std.specs.Option.{option_or};
 ghost use Rattle.sdl_build.specs.Built.{named_processes, own_from};
 ghost use Rattle.build_definitions.specs.Seen.{process_seen, signal_seen};
-ghost use Rattle.build_scopes.specs.Names.{first_of};
-ghost use Rattle.build_scopes.specs.Spaces.{is_same_scope};
-ghost use Rattle.build_scopes.specs.declared.scope.ScopeId.TheVariants as scopes;
+ghost use Rattle.build_names.specs.Names.{first_of};
+ghost use Rattle.build_names.specs.Spaces.{is_same_scope};
+ghost use Rattle.build_names.specs.declared.scopes.scope.ScopeId.TheVariants as scopes;
 ghost use Rattle.sdl_system.specs.System.{meaning_of, named};
 
 use build_definitions::{ProcessEntry, SignalEntry, next_number};
-use build_scopes::ScopeId;
+use build_names::ScopeId;
 use indexmap::IndexMap;
 use port_values::SignalId;
 use sdl_system::ProcessId;

@@ -1,21 +1,20 @@
 //! The system of a specification, or why there is none.
 
 ghost use Rattle.std.specs.Prelude.{◌≡◌, None, IfErr, IfOk};
-ghost use Rattle.build_context.specs.Around.{IsConstantTable, resolved_with};
+ghost use Rattle.sdl_build.specs.Around.{IsConstantTable, resolved_with};
 ghost use Rattle.sdl_build.specs.Built.{IsBuilt};
 ghost use Rattle.sdl_build.specs.Outcome.{IsMadeBehind, IsMadeOf, IsMadeOn, IsMadeWith, IsRefusedAs, is_past_limit};
 ghost use Rattle.build_definitions.specs.Definitions.{rows_of};
-ghost use Rattle.build_names.specs.Spaces.{AreNamesOf};
+ghost use Rattle.build_definitions.specs.Spaces.{AreNamesOf};
 ghost use Rattle.sdl_tree.specs.Views.{tree_value};
 
+use crate::context::Connections;
 use crate::error::BuildError;
 use crate::system::{processes_in, system_with};
 use build_constants::ConstantTable;
-use build_context::Connections;
-use build_definitions::Definitions;
-use build_faults::{Faults, Rule};
+use build_definitions::{Definitions, SymbolTable};
 use build_limits::note_limits;
-use build_names::SymbolTable;
+use build_names::{Faults, Rule};
 use sdl_system::System;
 use sdl_tree::Tree;
 use std::alloc::{AllocError, Global};

@@ -5,7 +5,7 @@ ghost use Rattle.sdl_build.specs.Signals.{known_sort, signal_from, signal_of, si
 ghost use Rattle.build_definitions.specs.Seen.{kind_seen, signal_seen};
 
 use build_definitions::{SignalEntry, SignalKind};
-use build_scopes::ScopeId;
+use build_names::ScopeId;
 use sdl_system::{Signal, Sort, Timer};
 use std::alloc::{AllocError, Global};
 

@@ -1,22 +1,20 @@
 //! The system of a specification, from its definitions on.
 
 ghost use Rattle.std.specs.Prelude.{◌≡◌, ◌<◌, length, IfOk, OnOk};
-ghost use Rattle.build_context.specs.Around.{AreKnown, context_of};
+ghost use Rattle.sdl_build.specs.Around.{AreKnown, context_of};
 ghost use Rattle.sdl_build.specs.Faulty.{NotesAt, NotesBodies};
-ghost use Rattle.build_context.specs.Headings.{IsValidSet};
+ghost use Rattle.sdl_build.specs.Headings.{IsValidSet};
 ghost use Rattle.sdl_build.specs.Made.{AreMade, AreProcessesOr, IsComposed, IsComposedIf, IsMadeAt, WholeList};
 ghost use Rattle.build_definitions.specs.Definitions.{rows_of};
-ghost use Rattle.route_network.specs.SignalLists.{AreSets};
-ghost use Rattle.route_table.specs.Valid.{AreValid};
+ghost use Rattle.build_routes.specs.SignalLists.{AreSets};
+ghost use Rattle.build_routes.specs.Valid.{AreValid};
 
+use crate::context::{Connections, process_at};
 use crate::defined::Defined;
 use build_constants::ConstantTable;
-use build_context::{Connections, process_at};
-use build_definitions::Definitions;
-use build_faults::Faults;
-use build_names::SymbolTable;
-use route_network::counted;
-use route_table::valid_sets;
+use build_definitions::{Definitions, SymbolTable};
+use build_names::Faults;
+use build_routes::{counted, valid_sets};
 use sdl_system::{Process, ProcessId, Routes, SignalSet, System};
 use std::alloc::{AllocError, Global};
 

@@ -4,8 +4,8 @@ use Rattle.std.proofs.lemmas.Option.{none-some}
 use Rattle.std.specs.List.{AllZip}
 use Rattle.sdl_build.specs.Built.{IsBuilt}
 use Rattle.sdl_build.specs.Laws.{CanRun}
-use Rattle.build_context.specs.ProcessScope.{process_scope}
-use Rattle.build_context.specs.Context.{Context}
+use Rattle.sdl_build.specs.ProcessScope.{process_scope}
+use Rattle.sdl_build.specs.Context.{Context}
 use Rattle.sdl_build.proofs.LawLemmas.{processes-can-run}
 use Rattle.build_definitions.specs.Rows.{ProcessRow}
 use Rattle.build_process.specs.Made.{IsHeaded}

@@ -1,8 +1,8 @@
 -- The behaviours that the text of a specification gives its processes.
 use Rattle.std.specs.Prelude.{◌≡◌, List, Some, length, slice_get}
-use Rattle.build_context.specs.Headings.{IsHeading}
-use Rattle.build_context.specs.ProcessScope.{process_scope}
-use Rattle.build_context.specs.Context.{Context}
+use Rattle.sdl_build.specs.Headings.{IsHeading}
+use Rattle.sdl_build.specs.ProcessScope.{process_scope}
+use Rattle.sdl_build.specs.Context.{Context}
 use Rattle.build_definitions.specs.Rows.{ProcessRow}
 use Rattle.build_process.specs.Made.{IsHeaded}
 use Rattle.build_process.specs.Meant.{IsBehaviour}

@@ -4,7 +4,7 @@ use Rattle.std.specs.String.{string_bytes}
 use Rattle.std.proofs.lemmas.Bool.{cond_both, false≢true}
 use Rattle.std.proofs.lemmas.List.{length-take}
 use Rattle.std.proofs.lemmas.List.Elements.{All-append, All-cons, All-nil, All-push, All-same, All-take, All-weaker}
-use Rattle.build_faults.specs.declared.fault.Rule.{Rule}
+use Rattle.build_names.specs.declared.faults.fault.Rule.{Rule}
 use Rattle.explain_rests.proofs.RestLemmas.{filled_rest, line_rest, on, whole}
 use Rattle.explain_rests.specs.Gap.{LeavesOut, lacks}
 use Rattle.explain_rests.specs.Rest.{IsRestOf}

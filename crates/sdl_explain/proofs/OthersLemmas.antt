@@ -3,7 +3,7 @@ use Rattle.std.proofs.Common.{◌≡◌, ◌<◌, ◌≤◌, ◌+◌, ◌-◌, �
 use Rattle.std.specs.String.{string_bytes}
 use Rattle.std.proofs.lemmas.Bool.{cond-false, cond-true, cond_both}
 use Rattle.std.proofs.lemmas.List.{length-append, length-take, length_push, take-append-le}
-use Rattle.build_faults.specs.declared.fault.Rule.{Rule}
+use Rattle.build_names.specs.declared.faults.fault.Rule.{Rule}
 use Rattle.explain_rests.specs.Gap.{lacks}
 use Rattle.explain_rests.specs.Line.{IsWithoutLine}
 use Rattle.explain_rests.specs.Words.{is_same_place}

@@ -1,7 +1,7 @@
 -- Faults of a text beside the one that is told of it.
 use Rattle.std.specs.Prelude.{◌≡◌, ◌≢◌, ℕ, ◌+◌, ◌-◌, ◌/◌, max, min, Bool, true, false, List, [], ◌∷◌, ◌++◌, None, Some, length, take, if◌then◌else◌}
 use Rattle.std.specs.String.{string_bytes}
-use Rattle.build_faults.specs.declared.fault.Rule.{Rule}
+use Rattle.build_names.specs.declared.faults.fault.Rule.{Rule}
 use Rattle.explain_rests.specs.Gap.{LeavesAll, LeavesOut, lacks}
 use Rattle.explain_rests.specs.Line.{IsWithoutLine}
 use Rattle.explain_rests.specs.Rest.{IsRestOf}

@@ -7,7 +7,7 @@ ghost use Rattle.sdl_explain.specs.Refused.{IsShown, Repeats, build_place, repea
 
 use crate::sentence::build_advice;
 use crate::shown::shown_at;
-use build_faults::Rule;
+use build_names::Rule;
 use explain_lines::{Advice, Explanation, Other, earlier_word};
 use explain_sites::{first_definition, first_mention};
 use sdl_advice::wanted_advice;

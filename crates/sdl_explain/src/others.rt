@@ -8,7 +8,7 @@ ghost use Rattle.sdl_explain.specs.Others.{AreLinesBeside, AreOtherLines, AreOth
 
 use crate::refused::is_lack;
 use crate::script::script_line;
-use build_faults::Rule;
+use build_names::Rule;
 use explain_rests::{Rest, leave_out_line};
 use sdl_build::{BuildError, build};
 use sdl_lex::Place;

@@ -1,7 +1,7 @@
 //! How far joins are followed.
 
-use build_faults::{Faults, Rule};
-use flow_ends::note_stays;
+use build_flow::note_stays;
+use build_names::{Faults, Rule};
 use sdl_parse::parse;
 use sdl_tree::{Definition, ProcessDefinition, SystemDefinition, Tree};
 use std::alloc::{AllocError, Global};

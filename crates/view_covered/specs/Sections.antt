@@ -14,7 +14,7 @@ use Rattle.sdl_system.specs.declared.id.StateId.{StateId}
 use Rattle.sdl_system.specs.declared.process.Process.{Process}
 use Rattle.sdl_system.specs.declared.signal.Signal.{Signal}
 use Rattle.sdl_system.specs.declared.state.StateTable.{StateTable}
-use Rattle.build_labels.specs.Labels.{names_listed}
+use Rattle.build_names.specs.Labels.{names_listed}
 use Rattle.sdl_tree.specs.Words.{Spot}
 use Rattle.sdl_tree.specs.declared.name.Name.{Name}
 use Rattle.view_coverage.specs.Coverage.{counted}

@@ -1,7 +1,7 @@
 //! The items of a process, one after the other.
 
 ghost use Rattle.std.specs.Prelude.{◌≡◌, ◌++◌, ◌∷◌, [], map, slice_get, string_bytes, OnOk};
-ghost use Rattle.build_labels.specs.Labels.{names_listed};
+ghost use Rattle.build_names.specs.Labels.{names_listed};
 ghost use Rattle.sdl_tree.specs.Views.{name_value};
 ghost use Rattle.view_covered.specs.Sections.{answer_if, answer_kind, answer_of, answer_row, answer_rows, known_rows, row_at, rows_listed, state_row, state_rows, stimulus_kind, stimulus_row};
 

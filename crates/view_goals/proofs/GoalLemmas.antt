@@ -4,13 +4,13 @@ use Rattle.port_values.specs.declared.item.SignalId.{SignalId}
 use Rattle.build_definitions.specs.Definitions.{path_of}
 use Rattle.build_definitions.specs.Rows.{ProcessRow}
 use Rattle.build_expressions.specs.declared.scope.SignalMeaning.{SignalMeaning}
-use Rattle.build_labels.specs.States.{different, state_names}
-use Rattle.build_scopes.specs.Names.{first_outward, names_in}
-use Rattle.build_scopes.specs.Spaces.{block_names, names_of, process_names}
-use Rattle.build_scopes.specs.declared.names.Outward.{Outward}
-use Rattle.build_scopes.specs.declared.scope.ScopeId.TheVariants.{Process, System}
-use Rattle.build_scopes.specs.declared.scope.ScopePath.{ScopePath}
-use Rattle.build_scopes.specs.declared.spaces.Spaces.{Spaces}
+use Rattle.build_names.specs.States.{different, state_names}
+use Rattle.build_names.specs.Names.{first_outward, names_in}
+use Rattle.build_names.specs.Spaces.{block_names, names_of, process_names}
+use Rattle.build_names.specs.declared.scopes.names.Outward.{Outward}
+use Rattle.build_names.specs.declared.scopes.scope.ScopeId.TheVariants.{Process, System}
+use Rattle.build_names.specs.declared.scopes.scope.ScopePath.{ScopePath}
+use Rattle.build_names.specs.declared.scopes.spaces.Spaces.{Spaces}
 use Rattle.sdl_system.specs.declared.id.ProcessId.{ProcessId}
 use Rattle.sdl_tree.specs.Tree.{ProcessDefinition}
 use Rattle.sdl_tree.specs.Words.{Spot}

@@ -4,12 +4,12 @@ use Rattle.build_definitions.specs.Definitions.{path_of, rows_in}
 use Rattle.build_definitions.specs.Parts.{parts_in}
 use Rattle.build_definitions.specs.Rows.{ProcessRow}
 use Rattle.build_expressions.specs.declared.scope.SignalMeaning.{SignalMeaning}
-use Rattle.build_labels.specs.Labels.{names_listed}
-use Rattle.build_labels.specs.States.{different, state_names}
-use Rattle.build_names.specs.Spaces.{AreNamesOf}
-use Rattle.build_names.specs.declared.symbol_table.SymbolTable.{SymbolTable}
-use Rattle.build_scopes.specs.declared.scope.ScopeId.TheVariants.{Process}
-use Rattle.build_scopes.specs.declared.spaces.Spaces.{Spaces}
+use Rattle.build_names.specs.Labels.{names_listed}
+use Rattle.build_names.specs.States.{different, state_names}
+use Rattle.build_definitions.specs.Spaces.{AreNamesOf}
+use Rattle.build_definitions.specs.declared.symbols.symbol_table.SymbolTable.{SymbolTable}
+use Rattle.build_names.specs.declared.scopes.scope.ScopeId.TheVariants.{Process}
+use Rattle.build_names.specs.declared.scopes.spaces.Spaces.{Spaces}
 use Rattle.sdl_system.specs.declared.id.ProcessId.{ProcessId}
 use Rattle.sdl_tree.specs.Tree.{ProcessDefinition, Tree}
 use Rattle.sdl_tree.specs.Views.{name_value}

@@ -7,12 +7,12 @@ use Rattle.sdl_tree.specs.Tree.{BodyPart, ContinuousSignal, FreeAction, Input, I
 use Rattle.sdl_tree.specs.Words.{Spot}
 use Rattle.build_expressions.specs.declared.scope.SignalMeaning.{SignalMeaning}
 use Rattle.build_expressions.specs.declared.scope.SignalMeaning.TheVariants as meant
-use Rattle.build_scopes.specs.Names.{first_outward, names_in}
-use Rattle.build_scopes.specs.Spaces.{block_names, names_of, process_names}
-use Rattle.build_scopes.specs.declared.names.Outward.{Outward}
-use Rattle.build_scopes.specs.declared.scope.ScopeId.TheVariants.{System}
-use Rattle.build_scopes.specs.declared.scope.ScopePath.{ScopePath}
-use Rattle.build_scopes.specs.declared.spaces.Spaces.{Spaces}
+use Rattle.build_names.specs.Names.{first_outward, names_in}
+use Rattle.build_names.specs.Spaces.{block_names, names_of, process_names}
+use Rattle.build_names.specs.declared.scopes.names.Outward.{Outward}
+use Rattle.build_names.specs.declared.scopes.scope.ScopeId.TheVariants.{System}
+use Rattle.build_names.specs.declared.scopes.scope.ScopePath.{ScopePath}
+use Rattle.build_names.specs.declared.scopes.spaces.Spaces.{Spaces}
 use Rattle.build_states.specs.States.{is_part_of}
 use Rattle.view_goals.specs.declared.goal.Awaited.{Awaited}
 use Rattle.view_goals.specs.declared.goal.Awaited.TheVariants.{Continuous, Rest, Signal}

@@ -8,11 +8,8 @@ ghost use Rattle.view_goals.specs.Goals.{AreGoals, all_goals, goals_seen, proces
 use crate::answer_list::answers_in;
 use crate::goal::{Goals, ProcessGoals};
 use crate::stimulus_list::stimuli_of;
-use build_definitions::{Definitions, next_number};
-use build_faults::Faults;
-use build_labels::states_of;
-use build_names::SymbolTable;
-use build_scopes::ScopeId;
+use build_definitions::{Definitions, SymbolTable, next_number};
+use build_names::{Faults, ScopeId, states_of};
 use sdl_system::ProcessId;
 use sdl_tree::{ProcessDefinition, Tree};
 use std::alloc::{AllocError, Global};

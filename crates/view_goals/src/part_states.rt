@@ -3,7 +3,7 @@
 ghost use Rattle.std.specs.Prelude.{◌≡◌, ◌++◌, IfOk, OnOk, string_bytes};
 ghost use Rattle.std.specs.List.{list_any};
 ghost use Rattle.std.specs.Str.{bytes_eq};
-ghost use Rattle.build_labels.specs.Labels.{names_listed};
+ghost use Rattle.build_names.specs.Labels.{names_listed};
 ghost use Rattle.build_states.specs.States.{is_named, is_part_of};
 ghost use Rattle.sdl_tree.specs.Views.{names_value, states_value};
 ghost use Rattle.view_goals.specs.Stimuli.{state_if, states_from};

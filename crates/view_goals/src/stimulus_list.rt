@@ -1,7 +1,7 @@
 //! What the states of a process wait for.
 
 ghost use Rattle.std.specs.Prelude.{◌≡◌, ◌++◌, fold, map, string_bytes, IfOk, OnOk};
-ghost use Rattle.build_labels.specs.Labels.{names_listed};
+ghost use Rattle.build_names.specs.Labels.{names_listed};
 ghost use Rattle.sdl_tree.specs.Views.{body_part_value, input_value, inputs_value, stimulus_value};
 ghost use Rattle.view_goals.specs.Stimuli.{goals_at, input_goals, inputs_goals, listed_goals, signal_outward, stimuli_in, with_continuous, with_part, with_stimuli, with_stimulus};
 
@@ -9,7 +9,7 @@ use crate::goal::{Awaited, StimulusGoal, Urgency};
 use crate::goal_list::GoalList;
 use crate::part_states::states_in;
 use build_expressions::SignalMeaning;
-use build_scopes::Outward;
+use build_names::Outward;
 use port_values::SignalId;
 use sdl_lex::Place;
 use sdl_system::StateId;

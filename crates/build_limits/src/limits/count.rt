@@ -5,7 +5,7 @@ ghost use Rattle.sdl_tree.specs.Tree as tree;
 ghost use Rattle.sdl_tree.specs.Views.{action_value, answer_part_value, body_part_value, ending_value, fpar_value, names_value, process_value, statement_value, stimulus_value, transition_value};
 ghost use Rattle.build_limits.specs.Limits.{action_statements, actions_statements, body_statements, ending_statements, otherwise_statements, parameter_names, parts_statements, process_statements, stimulus_statements, transition_statements};
 
-use build_faults::{Faults, Rule, Token};
+use build_names::{Faults, Rule, Token};
 use sdl_tree::{
     Action, ActionStatement, AnswerPart, BodyPart, FormalParameters, Mark, Name, ProcessDefinition,
     Spelling, Stimulus, Terminator, TerminatorStatement, Transition,
@@ -22,7 +22,7 @@ pub enum Count<'t> {
 
 impl<'t> Count<'t> {
     ghost use Rattle.build_limits.specs.Counted.{Counts, count_of, past_limit};
-    ghost use Rattle.build_faults.specs.Faults.{Notes, limit_at, token_word, mark_word};
+    ghost use Rattle.build_names.specs.Faults.{Notes, limit_at, token_word, mark_word};
 
     /// Notes the word past the limit, if there is one.
     pub fn note(self, faults: &mut Faults<'t>)

@@ -2,7 +2,7 @@
 
 use crate::names::Names;
 use crate::sorts::{operand_of, sides_of, sort_of};
-use build_operators::OperandSort;
+use build_expressions::OperandSort;
 use explain_lines::Advice;
 use sdl_tree::{Chain, Expression, UnaryOperator};
 use std::alloc::{AllocError, Global};

@@ -3,7 +3,7 @@
 use crate::names::Names;
 use crate::sorts::{one_of, sort_of_name};
 use build_definitions::SignalKind;
-use build_operators::OperandSort;
+use build_expressions::OperandSort;
 use explain_lines::Advice;
 use explain_sites::Kind;
 use sdl_system::Sort;

@@ -3,7 +3,7 @@
 use crate::misfit::parameter::parameter;
 use crate::names::Names;
 use crate::sorts::{operand_of, sort_named, sort_of, sort_of_name};
-use build_operators::OperandSort;
+use build_expressions::OperandSort;
 use explain_lines::Advice;
 use explain_sites::Use;
 use sdl_tree::Expression;

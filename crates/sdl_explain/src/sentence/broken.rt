@@ -1,6 +1,6 @@
 //! Sentences about the rules that a specification breaks.
 
-use build_faults::Rule;
+use build_names::Rule;
 use explain_lines::Advice;
 use explain_syntax::NO_MEMORY;
 use sdl_build::BuildError;

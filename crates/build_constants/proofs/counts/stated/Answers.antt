@@ -1,7 +1,7 @@
 use Rattle.std.proofs.Common.{option_map}
 use Rattle.build_constants.proofs.CountLemmas.{counts_accepted, counts_noted}
 use Rattle.build_constants.specs.Counts.{maximum_in}
-use Rattle.build_faults.specs.Faults.{mark_word}
+use Rattle.build_names.specs.Faults.{mark_word}
 use Rattle.build_expressions.specs.Scope.{scope_of}
 use Rattle.sdl_tree.specs.Views.{bound_value, expr_value}
 use Rattle.sdl_tree.specs.declared.mark.Mark.TheVariants as mark

@@ -2,7 +2,7 @@ use Rattle.std.proofs.Common.{◌≡◌, flat_map, map, take}
 use Rattle.build_definitions.specs.Seen.{signal_seen}
 use Rattle.build_definitions.specs.Definitions.{rows_of}
 use Rattle.build_constants.specs.ConstantTable.{duration_at, duration_faults_at}
-use Rattle.build_faults.specs.Faults.{Notes}
+use Rattle.build_names.specs.Faults.{Notes}
 use Rattle.build_constants.proofs.durations.durations_of.Given as goal
 
 abbrev pub invariant-loop-entry : goal.invariant-loop-entry

@@ -2,7 +2,7 @@ use Rattle.std.proofs.Common.{◌∙◌, ap, flat_map, map}
 use Rattle.build_constants.specs.ConstantTable.{initial_at, initial_faults_at}
 use Rattle.build_definitions.specs.Definitions.{rows_of}
 use Rattle.build_definitions.specs.Seen.{value_seen}
-use Rattle.build_faults.specs.Faults.{least_of}
+use Rattle.build_names.specs.Faults.{least_of}
 use Rattle.build_constants.proofs.ListLemmas.{all_taken, noted_more, one_more}
 use Rattle.build_constants.proofs.initials.initials_of.Goals as goal
 

@@ -3,7 +3,7 @@ use Rattle.std.specs.Iterator.Adapters.{zip_first, zip_second}
 use Rattle.std.specs.Slice.Iter.{iter_rest}
 use Rattle.build_definitions.specs.Seen.{process_seen}
 use Rattle.build_constants.specs.Limit.{limit_faults, limit_from, most_instances}
-use Rattle.build_faults.specs.Faults.{least_of}
+use Rattle.build_names.specs.Faults.{least_of}
 use Rattle.build_constants.proofs.limit.note_limit.Given as goal
 
 abbrev pub invariant-loop-entry : goal.invariant-loop-entry

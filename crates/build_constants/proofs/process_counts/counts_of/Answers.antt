@@ -2,7 +2,7 @@ use Rattle.std.proofs.Common.{◌∙◌, ap, flat_map, map}
 use Rattle.build_constants.specs.ConstantTable.{counts_at, counts_faults_at}
 use Rattle.build_definitions.specs.Definitions.{rows_of}
 use Rattle.build_definitions.specs.Seen.{process_seen}
-use Rattle.build_faults.specs.Faults.{least_of}
+use Rattle.build_names.specs.Faults.{least_of}
 use Rattle.build_constants.proofs.ListLemmas.{all_taken, noted_more, one_more}
 use Rattle.build_constants.proofs.process_counts.counts_of.Goals as goal
 

@@ -2,7 +2,7 @@ use Rattle.std.proofs.Common.{◌≡◌, flat_map, map, take}
 use Rattle.build_definitions.specs.Seen.{process_seen}
 use Rattle.build_definitions.specs.Definitions.{rows_of}
 use Rattle.build_constants.specs.ConstantTable.{counts_at, counts_faults_at}
-use Rattle.build_faults.specs.Faults.{Notes}
+use Rattle.build_names.specs.Faults.{Notes}
 use Rattle.build_constants.proofs.process_counts.counts_of.Given as goal
 
 abbrev pub invariant-loop-entry : goal.invariant-loop-entry

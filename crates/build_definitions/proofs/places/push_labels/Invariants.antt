@@ -1,7 +1,7 @@
 use Rattle.std.proofs.Common.{◌≡◌, ◌++◌, drop, map}
 use Rattle.build_definitions.specs.Rows.{label_rows}
 use Rattle.build_definitions.specs.Seen.{label_seen}
-use Rattle.build_labels.specs.Labels.{names_listed}
+use Rattle.build_names.specs.Labels.{names_listed}
 use Rattle.build_definitions.proofs.places.push_labels.Given as goal
 
 abbrev pub invariant-loop-name : goal.invariant-loop-name

@@ -1,6 +1,6 @@
 use Rattle.std.proofs.Common.{flat_map, map, take}
 use Rattle.build_definitions.specs.Parts.{signal_sort_faults}
-use Rattle.build_faults.specs.Faults.{Notes}
+use Rattle.build_names.specs.Faults.{Notes}
 use Rattle.sdl_tree.specs.Views.{signal_value}
 use Rattle.build_definitions.proofs.sorts.note_in_signals.Given as goal
 

@@ -1,6 +1,6 @@
 use Rattle.std.proofs.Common.{flat_map, map, take}
 use Rattle.build_definitions.specs.Parts.{synonym_sort_faults}
-use Rattle.build_faults.specs.Faults.{Notes}
+use Rattle.build_names.specs.Faults.{Notes}
 use Rattle.sdl_tree.specs.Views.{synonym_value}
 use Rattle.build_definitions.proofs.sorts.note_in_synonyms.Given as goal
 

@@ -1,6 +1,6 @@
 use Rattle.std.proofs.Common.{take}
 use Rattle.build_definitions.specs.Sorts.{unknown_sorts}
-use Rattle.build_faults.specs.Faults.{Notes}
+use Rattle.build_names.specs.Faults.{Notes}
 use Rattle.sdl_tree.specs.Views.{sorts_value}
 use Rattle.build_definitions.proofs.sorts.note_sorts.Given as goal
 

@@ -1,7 +1,7 @@
 use Rattle.std.proofs.Common.{◌∙◌, None, ap, option_map}
-use Rattle.build_faults.proofs.FaultLemmas.{both_noted}
-use Rattle.build_faults.specs.Faults.{fault_if, least_of, token_word}
-use Rattle.build_faults.specs.declared.fault.Rule.TheVariants.{Sort}
+use Rattle.build_names.proofs.FaultLemmas.{both_noted}
+use Rattle.build_names.specs.Faults.{fault_if, least_of, token_word}
+use Rattle.build_names.specs.declared.faults.fault.Rule.TheVariants.{Sort}
 use Rattle.build_expressions.specs.Answers.{comparable_in, is_incomparable}
 use Rattle.build_expressions.specs.Constants.{counted_faults}
 use Rattle.build_expressions.specs.Resolved.{typed_of}

@@ -1,7 +1,7 @@
 use Rattle.std.proofs.Common.{◌∙◌, ◌+◌, ◌<◌, ◌&&◌, ◌∷◌, None, ap, arith, drop, get_or, length, map, sym}
 use Rattle.std.proofs.lemmas.List.{drop_more, length-map}
-use Rattle.build_faults.proofs.FaultLemmas.{both_noted}
-use Rattle.build_faults.specs.Faults.{least_of}
+use Rattle.build_names.proofs.FaultLemmas.{both_noted}
+use Rattle.build_names.specs.Faults.{least_of}
 use Rattle.build_expressions.specs.Misused.{fault_of_place, misplaced}
 use Rattle.build_expressions.specs.Resolved.{argument_of}
 use Rattle.build_expressions.specs.Typing.{are_taken}

@@ -1,5 +1,5 @@
 use Rattle.std.proofs.Common.{◌≡◌, ◌&&◌, drop, map}
-use Rattle.build_faults.specs.Faults.{least_of}
+use Rattle.build_names.specs.Faults.{least_of}
 use Rattle.build_expressions.specs.Misused.{misplaced}
 use Rattle.build_expressions.specs.Resolved.{argument_of}
 use Rattle.build_expressions.specs.Typing.{are_taken}

@@ -1,6 +1,6 @@
 use Rattle.std.proofs.Common.{◌∙◌, ap, option_map}
-use Rattle.build_faults.proofs.FaultLemmas.{both_noted}
-use Rattle.build_faults.specs.Faults.{least_of}
+use Rattle.build_names.proofs.FaultLemmas.{both_noted}
+use Rattle.build_names.specs.Faults.{least_of}
 use Rattle.build_expressions.specs.Constants.{counted_faults}
 use Rattle.build_expressions.specs.Misused.{expression_faults, fault_of_place, place_faults}
 use Rattle.build_expressions.specs.Resolved.{typed_of}

@@ -1,8 +1,8 @@
 use Rattle.std.proofs.Common.{◌≡◌, ◌∙◌, ◌+◌, ◌++◌, ◌∷◌, List, ap, drop, flat_map, map, option_map, sym}
 use Rattle.std.proofs.lemmas.List.{at_drop_more, drop_all}
 use Rattle.std.proofs.lemmas.Result.{IfOk-weaker, on_ok_weaker}
-use Rattle.build_faults.proofs.FaultLemmas.{both_noted}
-use Rattle.build_faults.specs.Faults.{least_of}
+use Rattle.build_names.proofs.FaultLemmas.{both_noted}
+use Rattle.build_names.specs.Faults.{least_of}
 use Rattle.build_expressions.specs.Misused.{active_faults, binary_faults, expression_faults, links_faults, timer_faults, values_faults}
 use Rattle.build_expressions.specs.Resolved.{left_of}
 use Rattle.build_expressions.specs.Scope.{scope_of, signal_in}

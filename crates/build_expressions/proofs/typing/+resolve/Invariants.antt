@@ -1,5 +1,5 @@
 use Rattle.std.proofs.Common.{◌≡◌, drop, flat_map, map, option_map, take}
-use Rattle.build_faults.specs.Faults.{Notes, least_of}
+use Rattle.build_names.specs.Faults.{Notes, least_of}
 use Rattle.build_expressions.specs.Misused.{expression_faults, links_faults}
 use Rattle.build_expressions.specs.Resolved.{argument_of, left_of}
 use Rattle.build_expressions.specs.Scope.{scope_of}

@@ -1,5 +1,5 @@
 use Rattle.std.proofs.Common.{flat_map, take}
-use Rattle.build_faults.specs.Faults.{Notes}
+use Rattle.build_names.specs.Faults.{Notes}
 use Rattle.build_limits.specs.Limits.{declared_faults}
 use Rattle.build_limits.specs.Listed.{declared_listed}
 use Rattle.build_limits.proofs.limits.note_all_sorts.Given as goal

@@ -1,6 +1,6 @@
 use Rattle.std.proofs.Common.{◌∙◌, ap, option_map, sym}
-use Rattle.build_faults.specs.declared.fault.Rule.TheVariants.{Limit}
-use Rattle.build_faults.specs.Faults.{earlier, least_of, limit_at, diagnostic_at}
+use Rattle.build_names.specs.declared.faults.fault.Rule.TheVariants.{Limit}
+use Rattle.build_names.specs.Faults.{earlier, least_of, limit_at, diagnostic_at}
 use Rattle.build_limits.specs.Limits.{declared_name}
 use Rattle.build_limits.specs.Listed.{declared_value}
 use Rattle.build_limits.proofs.PastLemmas.{noted-at}

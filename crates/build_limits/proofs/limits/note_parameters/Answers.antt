@@ -1,7 +1,7 @@
 use Rattle.std.proofs.Common.{◌∙◌, ap, option_map}
 use Rattle.sdl_tree.specs.Views.{fpar_value}
 use Rattle.build_limits.specs.Counted.{past_limit}
-use Rattle.build_faults.specs.Faults.{least_of, limit_at}
+use Rattle.build_names.specs.Faults.{least_of, limit_at}
 use Rattle.build_limits.specs.Limits.{parameter_names}
 use Rattle.build_limits.proofs.CountLemmas.{past_limit-counted}
 use Rattle.build_limits.proofs.limits.note_parameters.Goals as goal

@@ -1,7 +1,7 @@
 use Rattle.std.proofs.Common.{◌∙◌, ap, flat_map}
 use Rattle.std.proofs.lemmas.List.{take_all}
 use Rattle.build_limits.specs.Counted.{Left, counted, past_limit}
-use Rattle.build_faults.specs.Faults.{least_of, limit_at}
+use Rattle.build_names.specs.Faults.{least_of, limit_at}
 use Rattle.build_limits.specs.Limits.{process_statements}
 use Rattle.build_limits.specs.Listed.{processes_listed}
 use Rattle.build_limits.proofs.CountLemmas.{past_limit-counted}

@@ -2,9 +2,9 @@ use Rattle.std.proofs.Common.{◌∙◌, ap, option_map, sym}
 use Rattle.std.proofs.lemmas.List.{map-id}
 use Rattle.sdl_tree.specs.Views.{name_value}
 use Rattle.sdl_tree.specs.Words.{Spot}
-use Rattle.build_faults.specs.declared.fault.Rule.TheVariants.{Limit}
-use Rattle.build_faults.specs.Faults.{diagnostic_at, earlier, fault_at, least_of, limit_at}
-use Rattle.build_labels.specs.Labels.{names_listed}
+use Rattle.build_names.specs.declared.faults.fault.Rule.TheVariants.{Limit}
+use Rattle.build_names.specs.Faults.{diagnostic_at, earlier, fault_at, least_of, limit_at}
+use Rattle.build_names.specs.Labels.{names_listed}
 use Rattle.build_limits.proofs.PastLemmas.{noted-at}
 use Rattle.build_limits.proofs.limits.note_states.Goals as goal
 use Rattle.build_limits.proofs.limits.note_states.Goals.{in-Some, in_default}

@@ -1,8 +1,8 @@
 use Rattle.std.proofs.Common.{[], ◌∙◌, ◌++◌, ap}
 use Rattle.build_network.specs.Connects.{ids_of, named_paths, numbers_at}
 use Rattle.build_network.proofs.BehindLemmas.{behind_all, behind_more}
-use Rattle.build_scopes.specs.Names.{first_of}
-use Rattle.build_scopes.specs.Spaces.{names_of}
+use Rattle.build_names.specs.Names.{first_of}
+use Rattle.build_names.specs.Spaces.{names_of}
 use Rattle.sdl_tree.specs.Views.{name_value}
 use Rattle.build_network.proofs.connects.named_paths.Goals as goal
 

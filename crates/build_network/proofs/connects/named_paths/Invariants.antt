@@ -1,6 +1,6 @@
 use Rattle.std.proofs.Common.{◌≡◌, flat_map, take}
 use Rattle.build_network.specs.Connects.{named_paths}
-use Rattle.build_scopes.specs.Spaces.{names_of}
+use Rattle.build_names.specs.Spaces.{names_of}
 use Rattle.sdl_tree.specs.Views.{names_value}
 use Rattle.build_network.proofs.connects.named_paths.Given as goal
 

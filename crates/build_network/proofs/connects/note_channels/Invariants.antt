@@ -1,7 +1,7 @@
 use Rattle.std.proofs.Common.{flat_map, take}
 use Rattle.build_network.specs.Connects.{channel_faults}
-use Rattle.build_faults.specs.Faults.{Notes}
-use Rattle.build_scopes.specs.Spaces.{names_of}
+use Rattle.build_names.specs.Faults.{Notes}
+use Rattle.build_names.specs.Spaces.{names_of}
 use Rattle.sdl_tree.specs.Views.{names_value}
 use Rattle.build_network.proofs.connects.note_channels.Given as goal
 

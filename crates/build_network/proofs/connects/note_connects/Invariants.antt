@@ -1,7 +1,7 @@
 use Rattle.std.proofs.Common.{flat_map, map, take}
 use Rattle.build_definitions.specs.Seen.{connection_seen}
 use Rattle.build_network.specs.Connects.{connect_faults}
-use Rattle.build_faults.specs.Faults.{Notes}
+use Rattle.build_names.specs.Faults.{Notes}
 use Rattle.build_network.proofs.connects.note_connects.Given as goal
 
 abbrev pub invariant-loop-entry : goal.invariant-loop-entry

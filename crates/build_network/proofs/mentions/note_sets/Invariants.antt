@@ -1,7 +1,7 @@
 use Rattle.std.proofs.Common.{flat_map, map, take}
 use Rattle.build_network.specs.Processes.{set_faults}
 use Rattle.build_network.specs.Seen.{seen_of}
-use Rattle.build_faults.specs.Faults.{Notes}
+use Rattle.build_names.specs.Faults.{Notes}
 use Rattle.sdl_tree.specs.Views.{local_value}
 use Rattle.build_network.proofs.mentions.note_sets.Given as goal
 

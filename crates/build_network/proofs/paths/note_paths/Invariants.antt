@@ -1,6 +1,6 @@
 use Rattle.std.proofs.Common.{flat_map, map, take}
 use Rattle.build_network.specs.Paths.{path_faults, placed_value}
-use Rattle.build_faults.specs.Faults.{Notes}
+use Rattle.build_names.specs.Faults.{Notes}
 use Rattle.build_network.proofs.paths.note_paths.Given as goal
 
 abbrev pub invariant-loop-entry : goal.invariant-loop-entry

@@ -2,8 +2,8 @@ use Rattle.std.proofs.Common.{◌∙◌, ap, arith, map, sym, take}
 use Rattle.build_definitions.specs.Seen.{process_seen}
 use Rattle.build_network.proofs.NumberLemmas.{joined-map-step}
 use Rattle.build_network.specs.Processes.{faults_of, processes_faults}
-use Rattle.build_faults.proofs.FaultLemmas.{both_noted}
-use Rattle.build_faults.specs.Faults.{least_of}
+use Rattle.build_names.proofs.FaultLemmas.{both_noted}
+use Rattle.build_names.specs.Faults.{least_of}
 use Rattle.build_network.proofs.processes.note_processes.Goals as goal
 
 pub loop-index-preserved : goal.loop-index-preserved

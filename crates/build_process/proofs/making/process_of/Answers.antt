@@ -1,6 +1,6 @@
 use Rattle.std.proofs.Common.{◌∙◌, Some, map, option_map, refl, subst, sym}
 use Rattle.build_states.specs.Tabled.{table_value}
-use Rattle.build_state_tables.specs.Stated.{TablesOf, state_value, states_listed}
+use Rattle.build_tables.specs.Stated.{TablesOf, state_value, states_listed}
 use Rattle.build_states.specs.Tabled.{names_listed}
 use Rattle.std.specs.Prelude.{◌≡◌, IfSome}
 use Rattle.build_process.specs.Conditions.{AreWhole}

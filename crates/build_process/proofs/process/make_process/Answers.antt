@@ -1,14 +1,14 @@
 use Rattle.std.proofs.Common.{All, length, ◌≡◌, ◌∙◌, Some, ap, map, subst}
 use Rattle.std.proofs.lemmas.Result.{IfOk-weaker}
-use Rattle.build_transitions.specs.Added.{HasEach}
-use Rattle.flow_paths.specs.Beginnings.{beginnings}
+use Rattle.build_process.specs.Added.{HasEach}
+use Rattle.build_flow.specs.Beginnings.{beginnings}
 use Rattle.build_states.specs.Shared.{IsOfName}
-use Rattle.build_transitions.specs.Sound.{AreTransitionsOf}
+use Rattle.build_process.specs.Sound.{AreTransitionsOf}
 use Rattle.build_states.specs.States.{state_of, tables_of}
 use Rattle.build_states.specs.Tabled.{is_state, meanings_at, names_listed, table_value}
 use Rattle.build_states.proofs.ProcessLemmas.{meanings-read}
-use Rattle.build_stimuli.specs.Listed.{part_value}
-use Rattle.build_stimuli.specs.Reading.{process_read}
+use Rattle.build_states.specs.Listed.{part_value}
+use Rattle.build_states.specs.Reading.{process_read}
 use Rattle.sdl_tree.specs.Views.{process_value}
 use Rattle.build_process.specs.Made.{Said}
 use Rattle.build_process.specs.ProcessScope.{for_stimuli, for_transitions, process_scope_of}

@@ -1,9 +1,9 @@
 use Rattle.std.proofs.Common.{◌∙◌, ap, flat_map, map}
-use Rattle.build_faults.specs.Faults.{least_of}
+use Rattle.build_names.specs.Faults.{least_of}
 use Rattle.build_states.specs.States.{left_out_faults}
 use Rattle.build_states.specs.Tabled.{is_state}
-use Rattle.build_stimuli.specs.Context.{context_of}
-use Rattle.build_stimuli.specs.Reading.{body_faults}
+use Rattle.build_states.specs.Context.{context_of}
+use Rattle.build_states.specs.Reading.{body_faults}
 use Rattle.sdl_tree.specs.Views.{body_part_value}
 use Rattle.build_process.specs.ProcessScope.{for_stimuli, process_scope_of}
 use Rattle.build_process.proofs.FaultLemmas.{two-noted}

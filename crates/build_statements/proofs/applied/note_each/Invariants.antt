@@ -1,7 +1,7 @@
 use Rattle.std.proofs.Common.{flat_map, map, take}
 use Rattle.build_statements.specs.Contexts.{context_of}
 use Rattle.build_statements.specs.Faulty.{asked_faults}
-use Rattle.build_faults.specs.Faults.{Notes}
+use Rattle.build_names.specs.Faults.{Notes}
 use Rattle.sdl_tree.specs.Views.{expr_value}
 use Rattle.build_statements.proofs.applied.note_each.Given as goal
 

@@ -1,7 +1,7 @@
 use Rattle.std.proofs.Common.{◌≡◌, ◌∙◌, ◌++◌, Bool, None, Option, Some, ap, flat_map, is_some, map, option_map, refl}
 use Rattle.build_expressions.specs.Partial.{all_some, both}
-use Rattle.build_faults.proofs.FaultLemmas.{both_noted}
-use Rattle.build_faults.specs.Faults.{least_of}
+use Rattle.build_names.proofs.FaultLemmas.{both_noted}
+use Rattle.build_names.specs.Faults.{least_of}
 use Rattle.build_statements.specs.Contexts.{context_of}
 use Rattle.build_statements.specs.Faulty.{destination_faults, has_destination, sending_faults}
 use Rattle.build_statements.specs.Statements.{sending_in}

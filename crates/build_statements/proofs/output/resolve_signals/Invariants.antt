@@ -3,7 +3,7 @@ use Rattle.build_statements.specs.Contexts.{context_of}
 use Rattle.build_statements.specs.Faulty.{sending_faults}
 use Rattle.build_statements.specs.Statements.{sending_in}
 use Rattle.sdl_system.specs.Table.{sending}
-use Rattle.build_faults.specs.Faults.{Notes}
+use Rattle.build_names.specs.Faults.{Notes}
 use Rattle.sdl_tree.specs.Views.{applied_value}
 use Rattle.build_statements.proofs.output.resolve_signals.Given as goal
 

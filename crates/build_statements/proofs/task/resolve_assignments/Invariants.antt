@@ -3,7 +3,7 @@ use Rattle.build_statements.specs.Contexts.{context_of}
 use Rattle.build_statements.specs.Faulty.{assignment_faults}
 use Rattle.build_statements.specs.Statements.{assigning_in}
 use Rattle.sdl_system.specs.Table.{assigning}
-use Rattle.build_faults.specs.Faults.{Notes}
+use Rattle.build_names.specs.Faults.{Notes}
 use Rattle.sdl_tree.specs.Views.{assignment_value}
 use Rattle.build_statements.proofs.task.resolve_assignments.Given as goal
 

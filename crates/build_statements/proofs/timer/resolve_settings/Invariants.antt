@@ -3,7 +3,7 @@ use Rattle.build_statements.specs.Contexts.{context_of}
 use Rattle.build_statements.specs.Faulty.{setting_faults}
 use Rattle.build_statements.specs.Statements.{setting_in}
 use Rattle.sdl_system.specs.Table.{setting}
-use Rattle.build_faults.specs.Faults.{Notes}
+use Rattle.build_names.specs.Faults.{Notes}
 use Rattle.sdl_tree.specs.Views.{clause_value}
 use Rattle.build_statements.proofs.timer.resolve_settings.Given as goal
 

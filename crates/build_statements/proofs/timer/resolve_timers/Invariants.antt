@@ -2,7 +2,7 @@ use Rattle.std.proofs.Common.{◌≡◌, flat_map, map, option_map, take}
 use Rattle.build_statements.specs.Contexts.{context_of}
 use Rattle.build_statements.specs.Faulty.{timing_faults}
 use Rattle.build_statements.specs.Statements.{timing_in}
-use Rattle.build_faults.specs.Faults.{Notes}
+use Rattle.build_names.specs.Faults.{Notes}
 use Rattle.sdl_system.specs.Table.{timing}
 use Rattle.sdl_tree.specs.Views.{group_value}
 use Rattle.build_statements.proofs.timer.resolve_timers.Given as goal

@@ -1,5 +1,5 @@
 use Rattle.std.proofs.Common.{flat_map, map, take}
-use Rattle.build_faults.specs.Faults.{Notes}
+use Rattle.build_names.specs.Faults.{Notes}
 use Rattle.build_states.specs.States.{left_out_faults}
 use Rattle.sdl_tree.specs.Views.{body_part_value}
 use Rattle.build_states.specs.Tabled.{is_state}

@@ -1,8 +1,8 @@
 use Rattle.std.proofs.Common.{◌≡◌, ◌∙◌, ◌++◌, ◌∷◌, All, [], Some, ap, length, map, subst, sym}
 use Rattle.std.proofs.lemmas.List.{length-map, map-append}
 use Rattle.std.proofs.lemmas.List.Elements.{All-push}
-use Rattle.build_faults.specs.Faults.{least_of}
-use Rattle.build_stimuli.specs.Listed.{part_value}
+use Rattle.build_names.specs.Faults.{least_of}
+use Rattle.build_states.specs.Listed.{part_value}
 use Rattle.build_states.specs.Outlined.{parts_at}
 use Rattle.build_states.specs.Shared.{IsKnown, IsOfName, Keeps, KeepsKnown, faults_by, known_in, table_at, table_by}
 use Rattle.build_states.specs.States.{state_faults, table_of}

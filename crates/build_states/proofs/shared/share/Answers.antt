@@ -1,8 +1,8 @@
 use Rattle.std.proofs.Common.{◌≡◌, ◌∙◌, ◌++◌, ◌∷◌, [], Some, ap, flat_map, map, rules, subst, sym, take}
 use Rattle.std.proofs.lemmas.List.{take_all}
-use Rattle.build_faults.specs.Faults.{least_of}
+use Rattle.build_names.specs.Faults.{least_of}
 use Rattle.sdl_tree.specs.Views.{name_value}
-use Rattle.build_stimuli.specs.Listed.{part_value}
+use Rattle.build_states.specs.Listed.{part_value}
 use Rattle.build_states.specs.Outlined.{seen_in}
 use Rattle.build_states.specs.Shared.{IsKnown, faults_by, known_in, states_listed, table_at, table_by}
 use Rattle.build_states.specs.States.{named_faults, tables_of}

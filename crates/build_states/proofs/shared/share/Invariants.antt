@@ -1,6 +1,6 @@
 use Rattle.std.proofs.Common.{◌≡◌, All, Some, flat_map, map, take}
-use Rattle.build_faults.specs.Faults.{Notes}
-use Rattle.build_stimuli.specs.Listed.{part_value}
+use Rattle.build_names.specs.Faults.{Notes}
+use Rattle.build_states.specs.Listed.{part_value}
 use Rattle.build_states.specs.Shared.{IsKnown, IsOfName, table_at}
 use Rattle.build_states.specs.States.{named_faults, tables_of}
 use Rattle.build_states.specs.Tabled.{names_listed, table_value}

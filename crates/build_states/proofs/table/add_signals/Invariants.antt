@@ -1,5 +1,5 @@
 use Rattle.std.proofs.Common.{◌≡◌, ◌++◌, map, take}
-use Rattle.build_stimuli.specs.Listed.{continuous_value}
+use Rattle.build_states.specs.Listed.{continuous_value}
 use Rattle.build_states.proofs.table.add_signals.Given as goal
 
 abbrev pub invariant-loop-signal : goal.invariant-loop-signal

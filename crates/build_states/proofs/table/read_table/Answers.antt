@@ -1,5 +1,5 @@
 use Rattle.std.proofs.Common.{map, option_map}
-use Rattle.build_stimuli.specs.Listed.{part_value}
+use Rattle.build_states.specs.Listed.{part_value}
 use Rattle.build_states.specs.Tabled.{part_seen, table_value}
 use Rattle.build_states.proofs.ShareLemmas.{listed-added, listed-noted}
 use Rattle.build_states.proofs.table.read_table.Goals as goal

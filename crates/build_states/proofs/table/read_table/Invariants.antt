@@ -1,6 +1,6 @@
 use Rattle.std.proofs.Common.{◌≡◌, map, take}
-use Rattle.build_faults.specs.Faults.{Notes}
-use Rattle.build_stimuli.specs.Listed.{part_value}
+use Rattle.build_names.specs.Faults.{Notes}
+use Rattle.build_states.specs.Listed.{part_value}
 use Rattle.build_states.specs.Outlined.{parts_at}
 use Rattle.build_states.specs.States.{state_faults, table_of}
 use Rattle.build_states.specs.Tabled.{table_value}

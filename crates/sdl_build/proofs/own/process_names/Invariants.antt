@@ -2,7 +2,7 @@ use Rattle.std.proofs.Common.{◌≡◌, ℕ, List, drop, map}
 use Rattle.std.specs.Option.{option_or}
 use Rattle.sdl_build.specs.Built.{named_processes}
 use Rattle.build_definitions.specs.Seen.{process_seen}
-use Rattle.build_scopes.specs.Names.{first_of}
+use Rattle.build_names.specs.Names.{first_of}
 use Rattle.sdl_system.specs.System.{meaning_of, named}
 use Rattle.sdl_build.proofs.own.process_names.Given as goal
 

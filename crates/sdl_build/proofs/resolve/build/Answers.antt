@@ -1,8 +1,8 @@
 use Rattle.std.proofs.Common.{None, subst, sym}
 use Rattle.sdl_build.proofs.ResolveLemmas.{is-built, not-none, refused-as}
-use Rattle.build_context.proofs.ProcessLemmas.{not-made}
+use Rattle.sdl_build.proofs.ProcessLemmas.{not-made}
 use Rattle.sdl_build.specs.Outcome.{IsMadeOf}
-use Rattle.build_faults.specs.Faults.{diagnostic_of}
+use Rattle.build_names.specs.Faults.{diagnostic_of}
 use Rattle.sdl_tree.specs.Views.{tree_value}
 use Rattle.sdl_build.proofs.resolve.build.Goals as goal
 

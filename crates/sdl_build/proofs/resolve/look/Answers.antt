@@ -1,5 +1,5 @@
 use Rattle.sdl_build.proofs.ResolveLemmas.{behind-if}
-use Rattle.build_context.proofs.ProcessLemmas.{not-made}
+use Rattle.sdl_build.proofs.ProcessLemmas.{not-made}
 use Rattle.build_definitions.specs.Definitions.{rows_of}
 use Rattle.sdl_build.proofs.resolve.look.Goals as goal
 

@@ -1,11 +1,11 @@
 use Rattle.std.proofs.Common.{◌∙◌, ap, sym}
 use Rattle.sdl_build.proofs.ResolveLemmas.{to-the-end-if}
-use Rattle.build_context.proofs.ProcessLemmas.{not-made}
-use Rattle.build_context.specs.Around.{resolved_with}
+use Rattle.sdl_build.proofs.ProcessLemmas.{not-made}
+use Rattle.sdl_build.specs.Around.{resolved_with}
 use Rattle.sdl_build.specs.Outcome as outcome
 use Rattle.build_definitions.specs.Definitions.{rows_of}
 use Rattle.build_constants.specs.ConstantTable.{constant_table_faults}
-use Rattle.build_faults.specs.Faults.{least_of}
+use Rattle.build_names.specs.Faults.{least_of}
 use Rattle.sdl_build.proofs.resolve.look_behind_names.Goals as goal
 
 pub returns-then-is_past_limit : goal.returns-then-is_past_limit

@@ -1,6 +1,6 @@
 use Rattle.sdl_build.proofs.ResolveLemmas.{made-on-if}
-use Rattle.build_context.proofs.ProcessLemmas.{not-made}
-use Rattle.build_context.specs.Around.{context_of}
+use Rattle.sdl_build.proofs.ProcessLemmas.{not-made}
+use Rattle.sdl_build.specs.Around.{context_of}
 use Rattle.sdl_build.proofs.resolve.look_on.Goals as goal
 
 pub processes_in-requires-clause-known : goal.processes_in-requires-clause-known

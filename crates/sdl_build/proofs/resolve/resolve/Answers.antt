@@ -1,9 +1,9 @@
 use Rattle.std.proofs.Common.{◌∙◌, ap}
 use Rattle.sdl_build.proofs.ResolveLemmas.{looked-at-if}
-use Rattle.build_context.proofs.ProcessLemmas.{not-made}
+use Rattle.sdl_build.proofs.ProcessLemmas.{not-made}
 use Rattle.build_definitions.specs.Parts.{all_sort_faults}
 use Rattle.build_definitions.specs.Definitions.{rows_of}
-use Rattle.build_faults.specs.Faults.{least_of}
+use Rattle.build_names.specs.Faults.{least_of}
 use Rattle.build_limits.specs.Limits.{limit_faults}
 use Rattle.sdl_tree.specs.Views.{tree_value}
 use Rattle.sdl_build.proofs.resolve.resolve.Goals as goal

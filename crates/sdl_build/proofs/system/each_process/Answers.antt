@@ -2,9 +2,9 @@ use Rattle.std.proofs.Common.{◌≡◌, ◌∙◌, ◌+◌, Some, ap, length, r
 use Rattle.std.proofs.lemmas.Iterator.Adapters.{YieldsList-from_vec}
 use Rattle.std.proofs.lemmas.Iterator.Consumers.{YieldsList-end, YieldsList-turn}
 use Rattle.std.proofs.lemmas.Option.{none-some, slice_get_read}
-use Rattle.build_context.proofs.ListLemmas.{length-more}
+use Rattle.sdl_build.proofs.ListLemmas.{length-more}
 use Rattle.sdl_build.proofs.MadeLemmas.{as-many, below-at, bodies-next, less-than, made-next, valid-at}
-use Rattle.build_context.specs.Around.{context_of}
+use Rattle.sdl_build.specs.Around.{context_of}
 use Rattle.sdl_build.specs.Faulty.{NotesBodies}
 use Rattle.sdl_build.specs.Faulty as notes
 use Rattle.build_definitions.specs.Definitions.{rows_of}

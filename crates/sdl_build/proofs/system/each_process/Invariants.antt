@@ -1,5 +1,5 @@
 use Rattle.std.proofs.Common.{◌≡◌, length}
-use Rattle.build_context.specs.Around.{context_of}
+use Rattle.sdl_build.specs.Around.{context_of}
 use Rattle.sdl_build.specs.Faulty.{NotesBodies}
 use Rattle.sdl_build.specs.Made.{AreMade}
 use Rattle.sdl_build.proofs.system.each_process.Given as goal

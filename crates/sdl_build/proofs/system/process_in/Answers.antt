@@ -1,9 +1,9 @@
 use Rattle.std.proofs.Common.{◌∙◌, ap, length, map, refl, slice_get, subst, sym}
 use Rattle.std.proofs.lemmas.Option.{slice_get_read}
 use Rattle.sdl_build.proofs.MadeLemmas.{less-than, made-at-if, mapped-get, noted-at}
-use Rattle.build_context.proofs.ProcessLemmas.{length-map}
-use Rattle.build_context.specs.Around.{context_of}
-use Rattle.build_context.specs.Headings.{IsValidSet}
+use Rattle.sdl_build.proofs.ProcessLemmas.{length-map}
+use Rattle.sdl_build.specs.Around.{context_of}
+use Rattle.sdl_build.specs.Headings.{IsValidSet}
 use Rattle.build_definitions.specs.Seen.{process_seen}
 use Rattle.sdl_build.proofs.system.process_in.Goals as goal
 

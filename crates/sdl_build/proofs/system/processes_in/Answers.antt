@@ -1,5 +1,5 @@
 use Rattle.sdl_build.proofs.MadeLemmas.{all-if, noted-anyhow}
-use Rattle.build_context.specs.Around.{context_of}
+use Rattle.sdl_build.specs.Around.{context_of}
 use Rattle.sdl_build.proofs.system.processes_in.Goals as goal
 
 pub returns-clause-made : goal.returns-clause-made

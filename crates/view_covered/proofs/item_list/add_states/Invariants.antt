@@ -1,5 +1,5 @@
 use Rattle.std.proofs.Common.{◌≡◌, ◌++◌, drop}
-use Rattle.build_labels.specs.Labels.{names_listed}
+use Rattle.build_names.specs.Labels.{names_listed}
 use Rattle.view_covered.specs.Sections.{rows_listed, state_rows}
 use Rattle.view_covered.proofs.item_list.add_states.Given as goal
 

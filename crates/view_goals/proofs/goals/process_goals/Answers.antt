@@ -1,6 +1,6 @@
 use Rattle.std.proofs.Common.{◌∙◌, ap, map}
 use Rattle.build_definitions.specs.Seen.{process_seen}
-use Rattle.build_labels.specs.Labels.{names_listed}
+use Rattle.build_names.specs.Labels.{names_listed}
 use Rattle.sdl_tree.specs.Views.{body_part_value, process_value}
 use Rattle.view_goals.proofs.GoalLemmas.{goals-made, signals-on}
 use Rattle.view_goals.specs.Stimuli.{signal_on, signal_outward, stimuli_in}

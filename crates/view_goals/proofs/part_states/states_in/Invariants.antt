@@ -1,5 +1,5 @@
 use Rattle.std.proofs.Common.{◌≡◌, ◌++◌, drop}
-use Rattle.build_labels.specs.Labels.{names_listed}
+use Rattle.build_names.specs.Labels.{names_listed}
 use Rattle.sdl_tree.specs.Views.{states_value}
 use Rattle.view_goals.specs.Stimuli.{states_from}
 use Rattle.view_goals.proofs.part_states.states_in.Given as goal

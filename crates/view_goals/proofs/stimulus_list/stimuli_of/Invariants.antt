@@ -1,5 +1,5 @@
 use Rattle.std.proofs.Common.{◌≡◌, map, take}
-use Rattle.build_labels.specs.Labels.{names_listed}
+use Rattle.build_names.specs.Labels.{names_listed}
 use Rattle.sdl_tree.specs.Views.{body_part_value}
 use Rattle.view_goals.specs.Stimuli.{signal_outward, stimuli_in}
 use Rattle.view_goals.proofs.stimulus_list.stimuli_of.Given as goal

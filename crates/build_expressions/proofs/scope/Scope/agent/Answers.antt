@@ -1,5 +1,5 @@
 use Rattle.std.proofs.Common.{◌∙◌, ap, option_map, sym}
-use Rattle.build_scopes.specs.Names.{names_in}
+use Rattle.build_names.specs.Names.{names_in}
 use Rattle.build_expressions.specs.Scope.{agent_meaning, visible}
 use Rattle.build_expressions.proofs.ScopeLemmas.{meaning-first, outward-first}
 use Rattle.build_expressions.proofs.scope.Scope.agent.Goals as goal

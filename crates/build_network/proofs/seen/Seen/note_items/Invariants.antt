@@ -1,6 +1,6 @@
 use Rattle.std.proofs.Common.{take}
 use Rattle.build_network.specs.Seen.{seen_of, items_faults}
-use Rattle.build_faults.specs.Faults.{Notes}
+use Rattle.build_names.specs.Faults.{Notes}
 use Rattle.sdl_tree.specs.Views.{items_value}
 use Rattle.build_network.proofs.seen.Seen.note_items.Given as goal
 

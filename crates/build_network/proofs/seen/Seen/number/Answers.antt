@@ -1,5 +1,5 @@
 use Rattle.std.proofs.Common.{◌∙◌, ap}
-use Rattle.build_scopes.specs.Names.{first_of, names_in}
+use Rattle.build_names.specs.Names.{first_of, names_in}
 use Rattle.build_expressions.proofs.ScopeLemmas.{outward-first}
 use Rattle.build_expressions.specs.Scope.{visible}
 use Rattle.build_network.proofs.seen.Seen.number.Goals as goal

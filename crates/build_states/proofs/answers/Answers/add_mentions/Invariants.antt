@@ -1,7 +1,7 @@
 use Rattle.std.proofs.Common.{◌≡◌, take}
-use Rattle.build_faults.specs.Faults.{Notes}
+use Rattle.build_names.specs.Faults.{Notes}
 use Rattle.build_states.specs.Answered.{answers_value}
-use Rattle.build_stimuli.specs.Listed.{mentions_listed}
+use Rattle.build_states.specs.Listed.{mentions_listed}
 use Rattle.build_states.specs.States.{twice_faults, with_mentions}
 use Rattle.build_states.proofs.answers.Answers.add_mentions.Given as goal
 

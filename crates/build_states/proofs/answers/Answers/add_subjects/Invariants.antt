@@ -1,6 +1,6 @@
 use Rattle.std.proofs.Common.{◌≡◌, take}
 use Rattle.build_states.specs.Answered.{answers_value}
-use Rattle.build_stimuli.specs.Listed.{response_value}
+use Rattle.build_states.specs.Listed.{response_value}
 use Rattle.build_states.specs.States.{with_subjects}
 use Rattle.build_states.proofs.answers.Answers.add_subjects.Given as goal
 

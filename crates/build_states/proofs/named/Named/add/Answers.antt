@@ -1,8 +1,8 @@
 use Rattle.std.proofs.Common.{◌∙◌, ◌++◌, ◌∷◌, [], ap, false, map, true}
 use Rattle.std.proofs.lemmas.List.{map-append}
 use Rattle.indexmap.proofs.CallerLemmas.{insert_entry-new}
-use Rattle.build_scopes.proofs.NameLemmas.{none-of}
-use Rattle.build_stimuli.specs.Listed.{named_value, response_value}
+use Rattle.build_names.proofs.NameLemmas.{none-of}
+use Rattle.build_states.specs.Listed.{named_value, response_value}
 use Rattle.build_states.proofs.AnswerLemmas.{is_named-found, with_signal-known, with_signal-new}
 use Rattle.std.proofs.Common.{sym}
 use Rattle.build_states.proofs.named.Named.add.Goals as goal

@@ -1,5 +1,5 @@
 use Rattle.std.proofs.Common.{◌∙◌, ap, option_map, sym}
-use Rattle.build_stimuli.specs.Listed.{rest_value}
+use Rattle.build_states.specs.Listed.{rest_value}
 use Rattle.build_states.specs.States.{named_in}
 use Rattle.build_states.proofs.AnswerLemmas.{named-mapped}
 use Rattle.build_states.proofs.named.Named.get.Goals as goal

@@ -1,7 +1,7 @@
 use Rattle.std.proofs.Common.{◌+◌, ◌∙◌, ◌∷◌, List, ap, arith, drop, map, sym}
 use Rattle.std.proofs.lemmas.List.{at_drop_all, at_drop_more}
-use Rattle.build_stimuli.specs.Listed.{part_value}
-use Rattle.build_stimuli.specs.declared.reading.Part.{Part}
+use Rattle.build_states.specs.Listed.{part_value}
+use Rattle.build_states.specs.declared.stimuli.reading.Part.{Part}
 use Rattle.build_states.specs.Outlined.{seen_from}
 use Rattle.build_states.specs.Shared.{seen_of, states_listed}
 use Rattle.build_states.proofs.outline.Outline.of.Goals as goal

@@ -1,5 +1,5 @@
 use Rattle.std.proofs.Common.{◌≡◌, ℕ, List, drop, map}
-use Rattle.build_stimuli.specs.Listed.{part_value}
+use Rattle.build_states.specs.Listed.{part_value}
 use Rattle.build_states.specs.Outlined.{seen_from, seen_in}
 use Rattle.build_states.specs.Shared.{seen_of, states_listed}
 use Rattle.build_states.proofs.outline.Outline.of.Given as goal

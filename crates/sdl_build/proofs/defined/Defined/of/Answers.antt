@@ -3,7 +3,7 @@ use Rattle.sdl_build.specs.Built.{named_processes, own_from}
 use Rattle.sdl_build.specs.Signals.{signals_from}
 use Rattle.build_definitions.specs.Seen.{process_seen, signal_seen}
 use Rattle.build_definitions.specs.Definitions.{rows_of}
-use Rattle.build_scopes.specs.Names.{first_of}
+use Rattle.build_names.specs.Names.{first_of}
 use Rattle.sdl_build.proofs.defined.Defined.of.Goals as goal
 
 pub returns-clause-signals : goal.returns-clause-signals

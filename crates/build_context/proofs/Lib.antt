@@ -1,6 +1,0 @@
-pub mod AroundLemmas
-pub mod ConnectionLemmas
-pub mod ListLemmas
-pub mod ProcessLemmas
-pub mod StateLemmas
-pub mod VariableLemmas

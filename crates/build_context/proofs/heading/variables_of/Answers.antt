@@ -1,9 +1,0 @@
-use Rattle.std.proofs.lemmas.Slice.Zip.{either_empty_from_Zip}
-use Rattle.build_context.proofs.VariableLemmas.{variables-done}
-use Rattle.build_context.proofs.heading.variables_of.Goals as goal
-
-pub returns : goal.returns
-returns c =
-    variables-done _ _ _ _ _
-    (either_empty_from_Zip c.loop-entry.entry-iterator c.next.new.self c.next.result c.in-None.is c.next.ensures.steps)
-    c.loop-entry.invariant

@@ -1,6 +1,0 @@
-pub mod Around
-pub mod Context
-pub mod Headings
-pub mod Lists
-pub mod ProcessScope
-pub mod Processes

@@ -1,5 +1,0 @@
-use Rattle.build_faults.proofs.FaultLemmas.{both_noted}
-use Rattle.build_faults.proofs.laws.one_after_the_other.Goals as goal
-
-pub returns : goal.returns
-returns c = both_noted

@@ -1,0 +1,11 @@
+pub mod EndlessLaws
+pub mod JoinLemmas
+pub mod PassingLemmas
+pub mod PathLaws
+pub mod QuickLemmas
+pub mod ReachLaws
+pub mod RoundLemmas
+pub mod StayLaws
+pub mod StepLemmas
+pub mod TreeLemmas
+pub mod TurnLemmas

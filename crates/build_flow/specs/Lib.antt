@@ -1,0 +1,14 @@
+pub mod Beginnings
+pub mod Broken
+pub mod Ends
+pub mod Joins
+pub mod Laws
+pub mod Listed
+pub mod Mentions
+pub mod Met
+pub mod Passing
+pub mod Paths
+pub mod Quick
+pub mod Reach
+pub mod Stays
+pub mod Turns

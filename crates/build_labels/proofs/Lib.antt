@@ -1,2 +1,0 @@
-pub mod LabelLemmas
-pub mod StateLemmas

@@ -1,0 +1,9 @@
+use Rattle.build_routes.specs.Each.{ForSomeBelow}
+use Rattle.build_routes.specs.Graph.{Adds}
+use Rattle.build_routes.specs.Rows.{rows_of}
+use Rattle.build_routes.specs.Steps.{ConnectSteps}
+use Rattle.build_routes.proofs.graph.steps.add_connects.Given as goal
+
+abbrev pub invariant-loop-number : goal.invariant-loop-number
+invariant-loop-number l = Adds (λ from step. ForSomeBelow l.connects l.number (λ k connect. ConnectSteps l.paths k connect from step))
+    (rows_of l.fn.graph) (rows_of l.graph)

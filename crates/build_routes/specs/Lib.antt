@@ -1,0 +1,15 @@
+pub mod Arrivals
+pub mod Each
+pub mod Entries
+pub mod Graph
+pub mod Laws
+pub mod Mask
+pub mod Nodes
+pub mod Passing
+pub mod Paths
+pub mod Reached
+pub mod Rows
+pub mod SignalLists
+pub mod Steps
+pub mod Table
+pub mod Valid

@@ -1,6 +1,0 @@
-use Rattle.std.specs.Str.{bytes_eq}
-use Rattle.build_scopes.proofs.NameLemmas.{lookup-append}
-use Rattle.build_scopes.proofs.laws.inner_before_outer.Goals as goal
-
-pub returns : goal.returns
-returns g c = λ inner outer text. lookup-append (bytes_eq text) inner outer

@@ -1,7 +1,0 @@
-pub mod AgreeingLemmas
-pub mod ContinuousLemmas
-pub mod EnablingLemmas
-pub mod MeaningLemmas
-pub mod ReactionLemmas
-pub mod StateLemmas
-pub mod WaitingLemmas

@@ -1,5 +1,0 @@
-use Rattle.build_signal_classes.specs.Linked.{AreLinked}
-use Rattle.build_state_tables.proofs.reactions.reactions_of.Given as goal
-
-abbrev pub invariant-loop-number : goal.invariant-loop-number
-invariant-loop-number l = AreLinked l.parts.entries.now l.number l.named l.by_signal.entries

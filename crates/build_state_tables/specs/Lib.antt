@@ -1,4 +1,0 @@
-pub mod Agreeing
-pub mod Grouped
-pub mod Meant
-pub mod Stated

@@ -1,3 +1,0 @@
-pub mod BrokenLaws
-pub mod ContextLemmas
-pub mod PlaceLemmas

@@ -1,5 +1,0 @@
-use Rattle.build_stimuli.proofs.BrokenLaws.{broken-listed}
-use Rattle.build_stimuli.proofs.laws.broken_is_listed.Goals as goal
-
-pub returns : goal.returns
-returns c = broken-listed

@@ -1,6 +1,0 @@
-use Rattle.std.proofs.Common.{◌≡◌, map, take}
-use Rattle.build_stimuli.specs.declared.subject.Subject.TheVariants.{Signal}
-use Rattle.build_stimuli.proofs.signals.all_subjects.Given as goal
-
-abbrev pub invariant-loop-signal : goal.invariant-loop-signal
-invariant-loop-signal l = l.subjects.items ≡ map Signal (take l.signal-index l.signals)

@@ -1,7 +1,0 @@
-pub mod Broken
-pub mod Context
-pub mod Faulty
-pub mod Listed
-pub mod Mentions
-pub mod Places
-pub mod Reading

@@ -1,4 +1,0 @@
-pub mod BrokenLaws
-pub mod KnownLemmas
-pub mod NamedLemmas
-pub mod UnvaluedLaws

@@ -1,0 +1,5 @@
+pub mod Agreeing
+pub mod Grouped
+pub mod Linked
+pub mod Meant
+pub mod Stated

@@ -1,3 +1,0 @@
-pub mod EndlessLaws
-pub mod QuickLemmas
-pub mod StayLaws

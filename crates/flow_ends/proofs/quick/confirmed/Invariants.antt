@@ -1,7 +1,0 @@
-use Rattle.std.proofs.Common.{◌≡◌, take}
-use Rattle.flow_paths.specs.Listed.{found_listed, texts}
-use Rattle.flow_ends.specs.Quick.{all_confirmed}
-use Rattle.flow_ends.proofs.quick.confirmed.Given as goal
-
-abbrev pub invariant-loop-one : goal.invariant-loop-one
-invariant-loop-one l = texts l.confirmed ≡ all_confirmed l.names (found_listed (take l.one-index l.found))

@@ -1,7 +1,0 @@
-use Rattle.std.proofs.Common.{◌≡◌, take}
-use Rattle.flow_paths.specs.Listed.{texts}
-use Rattle.flow_ends.specs.Quick.{name_texts}
-use Rattle.flow_ends.proofs.quick.in_turn.Given as goal
-
-abbrev pub invariant-loop-name : goal.invariant-loop-name
-invariant-loop-name l = texts l.names ≡ name_texts (take l.name-index l.order)

@@ -1,7 +1,0 @@
-use Rattle.std.proofs.Common.{◌≡◌, flat_map, take}
-use Rattle.flow_paths.specs.Listed.{mentions_listed, texts}
-use Rattle.flow_paths.specs.Mentions.{join_names}
-use Rattle.flow_paths.proofs.mentions.joins_of.Given as goal
-
-abbrev pub invariant-loop-mention : goal.invariant-loop-mention
-invariant-loop-mention l = texts l.names ≡ flat_map join_names (mentions_listed (take l.mention-index l.mentions))

@@ -1,9 +1,0 @@
-pub mod Beginnings
-pub mod Joins
-pub mod Listed
-pub mod Mentions
-pub mod Met
-pub mod Passing
-pub mod Paths
-pub mod Reach
-pub mod Turns

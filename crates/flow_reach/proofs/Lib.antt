@@ -1,6 +1,0 @@
-pub mod JoinLemmas
-pub mod PassingLemmas
-pub mod PathLaws
-pub mod ReachLaws
-pub mod RoundLemmas
-pub mod TurnLemmas

@@ -1,4 +1,0 @@
-pub mod Broken
-pub mod Ends
-pub mod Laws
-pub mod Stays

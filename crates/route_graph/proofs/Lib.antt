@@ -1,2 +1,0 @@
-pub mod LinkLemmas
-pub mod NodeLemmas

@@ -1,8 +1,0 @@
-use Rattle.route_network.specs.Passing.{AmongFirst, ComesBy, Passes}
-use Rattle.route_network.specs.declared.graph.Step.{Step}
-use Rattle.route_network.proofs.graph.pass_all.Given as goal
-
-abbrev pub invariant-loop-step : goal.invariant-loop-step
-invariant-loop-step l =
-    Passes (λ n k. (step : Step) × AmongFirst l.steps l.step-index step × ComesBy l.from l.column step n k)
-    l.fn.reached l.reached l.fn.waiting.items l.waiting.items

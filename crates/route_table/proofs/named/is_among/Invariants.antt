@@ -1,6 +1,0 @@
-use Rattle.std.proofs.Common.{◌≡◌}
-use Rattle.route_network.specs.Each.{ForSomeBelow}
-use Rattle.route_table.proofs.named.is_among.Given as goal
-
-abbrev pub invariant-loop-id : goal.invariant-loop-id
-invariant-loop-id l = ForSomeBelow l.ids l.id-index (λ j path. path.0 ≡ l.number) → ⊥
