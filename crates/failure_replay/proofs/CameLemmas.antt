@@ -5,7 +5,7 @@ use Rattle.run_evaluation.specs.Variables.{VariableList}
 use Rattle.run_evaluation.specs.declared.identity.Identity.{Identity}
 use Rattle.run_record.specs.Event.{Event}
 use Rattle.run_semantics.specs.Leads.{Counts}
-use Rattle.run_transitions.specs.Walk.{ChoosesWay}
+use Rattle.sdl_interp.specs.Walk.{ChoosesWay}
 use Rattle.sdl_system.specs.System.{SystemValue}
 use Rattle.sdl_system.specs.declared.id.NodeId.{NodeId}
 use Rattle.sdl_system.specs.declared.id.StateId.{StateId}

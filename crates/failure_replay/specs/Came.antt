@@ -11,7 +11,7 @@ use Rattle.run_evaluation.specs.declared.store.Store.{Store}
 use Rattle.run_record.specs.Event.{Event}
 use Rattle.run_record.specs.Event as event
 use Rattle.run_semantics.specs.Leads.{Counts}
-use Rattle.run_transitions.specs.Walk.{ChoosesWay}
+use Rattle.sdl_interp.specs.Walk.{ChoosesWay}
 use Rattle.sdl_system.specs.Process.{table_of}
 use Rattle.sdl_system.specs.System.{SystemValue}
 use Rattle.sdl_system.specs.declared.id.NodeId.{NodeId}

@@ -6,7 +6,7 @@ use Rattle.run_evaluation.specs.Value.{at_place, key_at, truth_at, value_of, val
 use Rattle.run_evaluation.specs.declared.store.Store.{Store}
 use Rattle.run_record.specs.declared.failure.Failure.{Failure}
 use Rattle.run_semantics.specs.Fails.{IsTooLong, parameters_of, sent_by, set_by}
-use Rattle.run_transitions.specs.Walk.{HasNoWay, IsPassed}
+use Rattle.sdl_interp.specs.Walk.{HasNoWay, IsPassed}
 use Rattle.sdl_system.specs.Process.{table_of}
 use Rattle.sdl_system.specs.System.{SystemValue}
 use Rattle.sdl_system.specs.Table.{sending, setting, whither_of}

@@ -15,7 +15,7 @@ use port_inbox::Alone;
 use port_values::Ticks;
 use run_evaluation::{Knowledge, evaluate, evaluate_all, evaluate_at, evaluate_key};
 use run_record::Failure;
-use run_transitions::sort_of;
+use sdl_interp::sort_of;
 use sdl_system::{
     Assignment, Creation, Decision, Dest, Destination, Due, Output, Process, ProcessId, Sending,
     Setting, Sort, Statement, System, TimerUse, number_of, pid_of,

@@ -5,7 +5,7 @@ ghost use Rattle.port_values.specs.Value.{ValueList};
 ghost use Rattle.run_record.specs.Entry.{event_of, got_of};
 ghost use Rattle.run_record.specs.Event as event;
 ghost use Rattle.run_semantics.specs.Fails.{most_statements};
-ghost use Rattle.run_transitions.specs.Walk.{IsPassed};
+ghost use Rattle.sdl_interp.specs.Walk.{IsPassed};
 ghost use Rattle.failure_replay.specs.Fails.{FailsAt, StateFails};
 ghost use Rattle.failure_replay.specs.Known.{here_by};
 ghost use Rattle.failure_replay.specs.Replay.{StopsAsOf, StopsAt};

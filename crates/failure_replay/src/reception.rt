@@ -7,7 +7,7 @@ ghost use Rattle.failure_replay.specs.Received.{received, reception_in};
 use port_values::{SignalId, Value};
 use run_evaluation::{Store, place};
 use run_record::Failure;
-use run_transitions::sort_of;
+use sdl_interp::sort_of;
 use sdl_system::{Process, Reaction, Reception, StateId, VariableId};
 
 /// A value that doesn't fit the variable to which it goes, and why.

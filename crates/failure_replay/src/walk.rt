@@ -2,7 +2,7 @@
 
 ghost use Rattle.std.specs.Prelude.{◌≡◌, IfOk, IfSome, None, Option, Some, slice_get, true};
 ghost use Rattle.run_semantics.specs.Leads.{Counts};
-ghost use Rattle.run_transitions.specs.Walk.{ChoosesWay};
+ghost use Rattle.sdl_interp.specs.Walk.{ChoosesWay};
 ghost use Rattle.failure_replay.specs.Known.{here_by};
 ghost use Rattle.failure_replay.specs.Part.{parts_of};
 ghost use Rattle.failure_replay.specs.Replay.{Follows};

@@ -12,7 +12,7 @@ use Rattle.run_record.specs.Record.{RecordValue}
 use Rattle.run_semantics.specs.Effect.{Effect, Arm, Create, Send, effects_of}
 use Rattle.sdl_script.specs.Script.{end_of}
 use Rattle.sdl_script.specs.declared.script.ScriptLine.{ScriptLine}
-use Rattle.run_transitions.specs.Machine.{identity_of}
+use Rattle.sdl_interp.specs.Machine.{identity_of}
 use Rattle.sdl_system.specs.Behaviour.{Behaviour}
 use Rattle.sdl_system.specs.System.{SystemValue}
 use Rattle.sdl_system.specs.declared.process.Process.{Process}

@@ -16,7 +16,7 @@ use Rattle.run_semantics.specs.Effect.{Effect, Deed, Send}
 use Rattle.run_semantics.specs.Leads.{Happens}
 use Rattle.run_semantics.specs.ControlPoint.{Amid, AtStart, Closed, Definition, Doing, Ended, In, ControlPoint, Receiving}
 use Rattle.run_semantics.specs.Runs.{Runs, acts, hears, still, turns, waits}
-use Rattle.run_transitions.specs.Machine.{place_of}
+use Rattle.sdl_interp.specs.Machine.{place_of}
 use Rattle.sdl_system.specs.Behaviour.{Behaviour}
 use Rattle.sdl_system.specs.Body as body
 use Rattle.sdl_system.specs.declared.route.Dest.{Dest}

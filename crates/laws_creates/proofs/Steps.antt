@@ -21,8 +21,8 @@ use Rattle.run_semantics.specs.Effect.{Effect, Deed, Send, effects_of}
 use Rattle.run_semantics.specs.World.{Living, IsRouteBy, IsTrueOf, IsTrueOfOne, WorldValue, count_in, is_full, is_reached, most_instances, number_for, time_after_one}
 use Rattle.run_semantics.specs.World as world
 use Rattle.sdl_script.specs.declared.script.ScriptSignal.{ScriptSignal}
-use Rattle.run_transitions.specs.declared.machine.Position.{Position}
-use Rattle.run_transitions.specs.declared.machine.Position.TheVariants as position
+use Rattle.sdl_interp.specs.declared.transitions.machine.Position.{Position}
+use Rattle.sdl_interp.specs.declared.transitions.machine.Position.TheVariants as position
 use Rattle.sdl_system.specs.Behaviour.{Behaviour}
 use Rattle.sdl_system.specs.Route.{target_in}
 use Rattle.sdl_system.specs.System.{SystemValue}

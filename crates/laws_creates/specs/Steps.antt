@@ -13,7 +13,7 @@ use Rattle.run_semantics.specs.Effect.{Effect, Deed, Send, effects_of}
 use Rattle.run_semantics.specs.World.{most_instances}
 use Rattle.sdl_script.specs.declared.script.ScriptLine.{ScriptLine}
 use Rattle.sdl_script.specs.declared.script.ScriptSignal.{ScriptSignal}
-use Rattle.run_transitions.specs.declared.machine.Position.TheVariants.{Ended}
+use Rattle.sdl_interp.specs.declared.transitions.machine.Position.TheVariants.{Ended}
 use Rattle.sdl_system.specs.Behaviour.{Behaviour}
 use Rattle.sdl_system.specs.Route.{target_in}
 use Rattle.sdl_system.specs.System.{SystemValue}

@@ -11,9 +11,9 @@ use Rattle.sdl_interp.specs.Instance.{InstanceValue, IsQuietAt, work_of}
 use Rattle.run_semantics.specs.Effect.{Deed, events_of}
 use Rattle.run_semantics.specs.ControlPoint.{Definition, ControlPoint}
 use Rattle.run_semantics.specs.World.{WorldValue}
-use Rattle.run_transitions.specs.Machine.{place_of}
-use Rattle.run_transitions.specs.declared.machine.Position.{Position}
-use Rattle.run_transitions.specs.declared.machine.Position.TheVariants as at
+use Rattle.sdl_interp.specs.Machine.{place_of}
+use Rattle.sdl_interp.specs.declared.transitions.machine.Position.{Position}
+use Rattle.sdl_interp.specs.declared.transitions.machine.Position.TheVariants as at
 use Rattle.sdl_system.specs.Behaviour.{Behaviour}
 use Rattle.laws_one_report.specs.Same.{bare}
 use Rattle.laws_one_step.proofs.Steps.{Stepped, no_step, stepped_by}

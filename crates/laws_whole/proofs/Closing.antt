@@ -25,9 +25,9 @@ use Rattle.run_semantics.specs.Effect.{Deed, events_of}
 use Rattle.run_semantics.specs.Instance.{first_store}
 use Rattle.run_semantics.specs.Leads.{IsQuiet, Leads}
 use Rattle.run_semantics.specs.Runs.{Runs, acts, waits}
-use Rattle.run_transitions.specs.Machine.{place_of}
-use Rattle.run_transitions.specs.declared.machine.Position.{Position}
-use Rattle.run_transitions.specs.declared.machine.Position.TheVariants as at
+use Rattle.sdl_interp.specs.Machine.{place_of}
+use Rattle.sdl_interp.specs.declared.transitions.machine.Position.{Position}
+use Rattle.sdl_interp.specs.declared.transitions.machine.Position.TheVariants as at
 use Rattle.sdl_interp.specs.Instance.{closing}
 use Rattle.sdl_system.specs.declared.id.StateId.{StateId}
 use Rattle.settle_meaning.specs.Closed.{AreDueAfter, ClosesAs, EndsIn, IsDueAfter, IsEnd, IsExpiry}

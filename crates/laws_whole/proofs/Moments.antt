@@ -26,9 +26,9 @@ use Rattle.run_semantics.specs.Behaves.{AreBehaviours}
 use Rattle.run_semantics.specs.ControlPoint.{AtStart}
 use Rattle.run_semantics.specs.Effect.{Arm, Create, Deed, Effect, Send, effects_of, events_of}
 use Rattle.run_semantics.specs.Instance.{first_store}
-use Rattle.run_transitions.specs.Machine.{place_of}
-use Rattle.run_transitions.specs.declared.machine.Position.{Position}
-use Rattle.run_transitions.specs.declared.machine.Position.TheVariants as position
+use Rattle.sdl_interp.specs.Machine.{place_of}
+use Rattle.sdl_interp.specs.declared.transitions.machine.Position.{Position}
+use Rattle.sdl_interp.specs.declared.transitions.machine.Position.TheVariants as position
 use Rattle.sdl_interp.specs.Instance.{InstanceValue, closing}
 use Rattle.sdl_script.specs.Script.{end_of}
 use Rattle.sdl_script.specs.declared.script.ScriptLine.{ScriptLine}

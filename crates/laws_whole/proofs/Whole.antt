@@ -27,9 +27,9 @@ use Rattle.run_semantics.specs.Instance.{first_store}
 use Rattle.run_semantics.specs.Leads.{IsQuiet}
 use Rattle.run_semantics.specs.RunLaws.{RunsAreLegal}
 use Rattle.run_semantics.specs.Runs.{Runs}
-use Rattle.run_transitions.specs.Machine.{place_of}
-use Rattle.run_transitions.specs.declared.machine.Position.{Position}
-use Rattle.run_transitions.specs.declared.machine.Position.TheVariants as position
+use Rattle.sdl_interp.specs.Machine.{place_of}
+use Rattle.sdl_interp.specs.declared.transitions.machine.Position.{Position}
+use Rattle.sdl_interp.specs.declared.transitions.machine.Position.TheVariants as position
 use Rattle.sdl_interp.specs.Instance.{IsQuietAt}
 use Rattle.sdl_script.specs.Script.{end_of}
 use Rattle.sdl_script.specs.declared.script.ScriptLine.{ScriptLine}

@@ -15,14 +15,14 @@ use Rattle.run_order.specs.declared.member.Move.{Move}
 use Rattle.run_order.specs.declared.member.Move.TheVariants as move
 use Rattle.run_semantics.proofs.Acting.{runs_effects}
 use Rattle.run_semantics.proofs.Deeds.{after_deeds-effects}
-use Rattle.run_transitions.specs.Machine.{place_of}
+use Rattle.sdl_interp.specs.Machine.{place_of}
 use Rattle.run_semantics.specs.Behaves.{AreBehaviours}
 use Rattle.run_semantics.specs.ControlPoint.{ControlPoint, Definition}
 use Rattle.run_semantics.specs.Effect.{Deed, Effect, effects_of, events_of}
 use Rattle.run_semantics.specs.Goes.{Goes, IsOneStep, MachineValue}
 use Rattle.run_semantics.specs.World as world
 use Rattle.run_semantics.specs.World.{WorldValue}
-use Rattle.run_transitions.specs.declared.machine.Position.TheVariants as at
+use Rattle.sdl_interp.specs.declared.transitions.machine.Position.TheVariants as at
 use Rattle.sdl_interp.specs.Instance as steps
 use Rattle.sdl_interp.specs.Instance.{InstanceValue, IsRunAs, Keeps}
 use Rattle.sdl_system.specs.Behaviour.{Behaviour}

@@ -16,11 +16,11 @@ use Rattle.run_semantics.specs.Goes.{MachineValue, drawn_as}
 use Rattle.run_semantics.specs.Leads.{IsQuiet}
 use Rattle.run_semantics.specs.Runs.{Runs, acts, hears, outside_of, still, turns, waits}
 use Rattle.run_semantics.specs.World.{WorldValue}
-use Rattle.run_transitions.specs.declared.machine.Position.{Position}
-use Rattle.run_transitions.specs.declared.machine.Position.TheVariants as at
+use Rattle.sdl_interp.specs.declared.transitions.machine.Position.{Position}
+use Rattle.sdl_interp.specs.declared.transitions.machine.Position.TheVariants as at
 use Rattle.sdl_interp.specs.Instance.{InstanceValue, IsAtRest, IsIdle, IsQuietAt, IsRunAs, Keeps, work_of}
 use Rattle.sdl_interp.specs.Stimulus.{WaitsAt}
-use Rattle.run_transitions.specs.Work.{IsOf}
+use Rattle.sdl_interp.specs.Work.{IsOf}
 use Rattle.sdl_system.specs.System.{SystemValue}
 use Rattle.sdl_system.specs.declared.process.Process.{Process}
 use Rattle.serial_order.proofs.Own.{later_none}

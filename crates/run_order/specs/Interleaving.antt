@@ -13,8 +13,8 @@ use Rattle.run_order.specs.declared.pending.Pending.TheVariants as pending
 use Rattle.run_semantics.specs.Effect.{Deed}
 use Rattle.run_semantics.specs.Goes.{Goes, IsOneStep}
 use Rattle.run_semantics.specs.World.{WorldValue, number_for}
-use Rattle.run_transitions.specs.Machine.{place_of}
-use Rattle.run_transitions.specs.declared.machine.Position.TheVariants.{Ended}
+use Rattle.sdl_interp.specs.Machine.{place_of}
+use Rattle.sdl_interp.specs.declared.transitions.machine.Position.TheVariants.{Ended}
 use Rattle.sdl_interp.specs.Instance.{InstanceValue, Keeps, work_of}
 use Rattle.sdl_script.specs.declared.script.ScriptLine.{ScriptLine}
 use Rattle.sdl_system.specs.Behaviour.{Behaviour}

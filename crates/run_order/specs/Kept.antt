@@ -20,7 +20,7 @@ use Rattle.run_semantics.specs.ControlPoint.{Definition}
 use Rattle.run_semantics.specs.Effect.{Effect, effects_of, events_of}
 use Rattle.run_semantics.specs.Goes.{Goes, IsOneStep}
 use Rattle.run_semantics.specs.World.{WorldValue}
-use Rattle.run_transitions.specs.Machine.{place_of}
+use Rattle.sdl_interp.specs.Machine.{place_of}
 use Rattle.sdl_interp.specs.Instance.{InstanceValue, IsAtRest, IsRunAs, work_of}
 use Rattle.sdl_script.specs.declared.script.ScriptLine.{ScriptLine}
 use Rattle.sdl_script.specs.declared.script.ScriptSignal.{ScriptSignal}

@@ -7,7 +7,7 @@ ghost use Rattle.run_order.specs.Noted.{IsNotedNoMore};
 use crate::answers::Answers;
 use crate::member::Move;
 use crate::replay::Replay;
-use run_transitions::Position;
+use sdl_interp::Position;
 use std::alloc::{AllocError, Global};
 
 impl<'s> Replay<'s> {

@@ -8,7 +8,7 @@ ghost use Rattle.settle_meaning.specs.Settled.{IsSettledReport};
 use crate::runner::{Ran, Runner};
 use crate::serial::Serial;
 use run_record::{Report, RunError};
-use sdl_report::WriteFault;
+use sdl_report::{WriteFault, write_report_by_workers};
 use sdl_script::Script;
 use sdl_system::System;
 use sdl_workers::{Open, run, run_with_course};
@@ -18,7 +18,6 @@ use std::io::Write;
 use std::marker::PhantomData;
 use std::sync::Wait;
 use std::thread::Threads;
-use threads_report::write_report_by_workers;
 use view_run::OrderLog;
 
 /// The leave to start threads and to wait for them, of a type that has it. It is for the workers, too: unlike a `T`, it

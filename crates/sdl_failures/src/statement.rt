@@ -12,7 +12,7 @@ use failure_place::Site;
 use failure_replay::later;
 use port_values::Ticks;
 use run_record::Failure;
-use run_transitions::sort_of;
+use sdl_interp::sort_of;
 use sdl_lex::Place;
 use sdl_system::{
     Assignment, Creation, Decision, Destination, Due, Output, Process, Sending, Setting, Sort,

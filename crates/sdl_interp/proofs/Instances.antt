@@ -20,14 +20,14 @@ use Rattle.run_semantics.specs.Goes.{Goes, IsOneStep, MachineValue}
 use Rattle.run_semantics.specs.Instance.{HasRun, first_variables, parameters_from}
 use Rattle.run_semantics.specs.ControlPoint.{Definition}
 use Rattle.run_semantics.specs.World.{WorldValue}
-use Rattle.run_transitions.proofs.Staying.{kept_on}
-use Rattle.run_transitions.specs.Machine.{IsPositionIn, identity_of, place_of}
-use Rattle.run_transitions.specs.Running.{CoreValue, IsReached, IsReady, IsSameInstance, seen}
-use Rattle.run_transitions.specs.Work.{IsOf}
-use Rattle.run_transitions.specs.declared.machine.Machine.{Machine}
-use Rattle.run_transitions.specs.declared.machine.Position.{Position}
-use Rattle.run_transitions.specs.declared.machine.Position.TheVariants as at
-use Rattle.run_transitions.specs.declared.running.Core.{Core}
+use Rattle.sdl_interp.proofs.Staying.{kept_on}
+use Rattle.sdl_interp.specs.Machine.{IsPositionIn, identity_of, place_of}
+use Rattle.sdl_interp.specs.Running.{CoreValue, IsReached, IsReady, IsSameInstance, seen}
+use Rattle.sdl_interp.specs.Work.{IsOf}
+use Rattle.sdl_interp.specs.declared.transitions.machine.Machine.{Machine}
+use Rattle.sdl_interp.specs.declared.transitions.machine.Position.{Position}
+use Rattle.sdl_interp.specs.declared.transitions.machine.Position.TheVariants as at
+use Rattle.sdl_interp.specs.declared.transitions.running.Core.{Core}
 use Rattle.sdl_system.specs.Behaviour.{Behaviour, Means, VariableMeaning, variable_meaning}
 use Rattle.sdl_system.specs.System.{SystemValue}
 use Rattle.sdl_system.specs.declared.id.StateId.{StateId}

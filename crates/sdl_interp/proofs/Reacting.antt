@@ -27,9 +27,9 @@ use Rattle.run_semantics.specs.ControlPoint.{Definition, In, ControlPoint, Recei
 use Rattle.run_semantics.specs.Reception.{receiving}
 use Rattle.run_semantics.specs.Selection.{fails, tried}
 use Rattle.run_semantics.specs.World.{IsReading, WorldValue}
-use Rattle.run_transitions.specs.Machine.{place_of}
-use Rattle.run_transitions.specs.Work.{IsOf}
-use Rattle.run_transitions.specs.declared.machine.Position.{Position}
+use Rattle.sdl_interp.specs.Machine.{place_of}
+use Rattle.sdl_interp.specs.Work.{IsOf}
+use Rattle.sdl_interp.specs.declared.transitions.machine.Position.{Position}
 use Rattle.sdl_system.specs.Behaviour.{ContinuousSignal, MeansContinuous}
 use Rattle.sdl_system.specs.Process.{reaction_in, table_of}
 use Rattle.sdl_system.specs.System.{SystemValue}

@@ -15,8 +15,8 @@ use Rattle.run_semantics.specs.Leads.{LeadsSilently}
 use Rattle.run_semantics.specs.ControlPoint.{Definition, Doing, Receiving}
 use Rattle.run_semantics.specs.Reception.{assigned, sort_in}
 use Rattle.run_semantics.specs.World.{WorldValue}
-use Rattle.run_transitions.specs.Machine.{identity_of, value_of}
-use Rattle.run_transitions.specs.declared.machine.Machine.{Machine}
+use Rattle.sdl_interp.specs.Machine.{identity_of, value_of}
+use Rattle.sdl_interp.specs.declared.transitions.machine.Machine.{Machine}
 use Rattle.sdl_system.specs.Behaviour.{VariableMeaning, variable_meaning}
 use Rattle.sdl_system.specs.Body.{Body}
 use Rattle.sdl_system.specs.declared.id.StateId.{StateId}

@@ -10,8 +10,8 @@ use Rattle.run_record.specs.Event.{Event}
 use Rattle.run_record.specs.Record.{RecordValue, noted, with_room}
 use Rattle.run_semantics.specs.Goes.{with_event}
 use Rattle.run_semantics.specs.Reception.{provided, sender_of, taking}
-use Rattle.run_transitions.specs.Machine.{identity_of, value_of}
-use Rattle.run_transitions.specs.declared.machine.Machine.{Machine}
+use Rattle.sdl_interp.specs.Machine.{identity_of, value_of}
+use Rattle.sdl_interp.specs.declared.transitions.machine.Machine.{Machine}
 
 -- ---- the work
 

@@ -5,8 +5,8 @@ use Rattle.std.specs.List.{AllZip}
 use Rattle.port_model.specs.Take.{IsSaved}
 use Rattle.run_evaluation.specs.Environment.{Environment, environment}
 use Rattle.run_semantics.specs.ControlPoint.{Definition}
-use Rattle.run_transitions.specs.declared.machine.Position.{Position}
-use Rattle.run_transitions.specs.declared.machine.Position.TheVariants as at
+use Rattle.sdl_interp.specs.declared.transitions.machine.Position.{Position}
+use Rattle.sdl_interp.specs.declared.transitions.machine.Position.TheVariants as at
 use Rattle.sdl_interp.proofs.SelectionLemmas.{HasTable, has_table, selects_plain}
 use Rattle.sdl_interp.specs.Instance.{HasNothing, InstanceValue, IsAtRest, IsQuietAt, IsRunAs, NeedsStep}
 use Rattle.sdl_system.specs.Behaviour.{ContinuousSignal, MeansContinuous}

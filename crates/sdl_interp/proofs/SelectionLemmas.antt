@@ -22,7 +22,7 @@ use Rattle.run_record.specs.declared.failure.Failure.TheVariants.{Memory}
 use Rattle.run_semantics.specs.Fails.{FailsIn, of_condition, of_take}
 use Rattle.run_semantics.specs.ControlPoint.{Definition}
 use Rattle.run_semantics.specs.Selection.{Selects, class_by, enabled, first_failure}
-use Rattle.run_transitions.specs.Work.{IsOf}
+use Rattle.sdl_interp.specs.Work.{IsOf}
 use Rattle.sdl_system.proofs.BehaviourLemmas.{reacts_as_meant}
 use Rattle.sdl_system.specs.Behaviour.{Means, MeansResponse, MeansState, MeansTable, Response, StateMeaning, condition_in, input, priority_input, response_to, save}
 use Rattle.sdl_system.specs.Process.{choice_in, reaction_by, table_in, table_of}

@@ -5,11 +5,11 @@ use Rattle.sdl_interp.specs.declared.instance.Stepped.TheVariants as stepped
 use Rattle.run_semantics.specs.ControlPoint.{Definition}
 use Rattle.run_semantics.specs.Goes.{Goes, IsOneStep}
 use Rattle.run_semantics.specs.World.{WorldValue}
-use Rattle.run_transitions.specs.Machine.{place_of}
-use Rattle.run_transitions.specs.Running.{CoreValue, IsSameInstance}
-use Rattle.run_transitions.specs.Work.{IsOf}
-use Rattle.run_transitions.specs.declared.machine.Position.{Position}
-use Rattle.run_transitions.specs.declared.machine.Position.TheVariants.{BeforeStart, Ended, In}
+use Rattle.sdl_interp.specs.Machine.{place_of}
+use Rattle.sdl_interp.specs.Running.{CoreValue, IsSameInstance}
+use Rattle.sdl_interp.specs.Work.{IsOf}
+use Rattle.sdl_interp.specs.declared.transitions.machine.Position.{Position}
+use Rattle.sdl_interp.specs.declared.transitions.machine.Position.TheVariants.{BeforeStart, Ended, In}
 
 -- who it is, and what it is of, stays
 pub keeps_by : (at to : Position) (k l : CoreValue) → IsSameInstance k l → Keeps (instance_of at k) (instance_of to l)

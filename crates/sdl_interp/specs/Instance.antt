@@ -19,11 +19,11 @@ use Rattle.run_semantics.specs.World.{WorldValue}
 use Rattle.sdl_interp.specs.Stimulus.{WaitsAt}
 use Rattle.sdl_interp.specs.declared.instance.Stepped.{Stepped}
 use Rattle.sdl_interp.specs.declared.instance.Stepped.TheVariants as stepped
-use Rattle.run_transitions.specs.Machine.{IsPositionIn, place_of}
-use Rattle.run_transitions.specs.Running.{CoreValue, IsReady}
-use Rattle.run_transitions.specs.Work.{IsOf}
-use Rattle.run_transitions.specs.declared.machine.Position.{Position}
-use Rattle.run_transitions.specs.declared.machine.Position.TheVariants as at
+use Rattle.sdl_interp.specs.Machine.{IsPositionIn, place_of}
+use Rattle.sdl_interp.specs.Running.{CoreValue, IsReady}
+use Rattle.sdl_interp.specs.Work.{IsOf}
+use Rattle.sdl_interp.specs.declared.transitions.machine.Position.{Position}
+use Rattle.sdl_interp.specs.declared.transitions.machine.Position.TheVariants as at
 use Rattle.sdl_system.specs.Process.{table_of}
 use Rattle.sdl_system.specs.System.{SystemValue}
 use Rattle.sdl_system.specs.declared.id.StateId.{StateId}

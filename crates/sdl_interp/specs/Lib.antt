@@ -1,4 +1,9 @@
 pub mod Condition
 pub mod Instance
+pub mod Machine
+pub mod Output
+pub mod Running
 pub mod Selected
 pub mod Stimulus
+pub mod Walk
+pub mod Work

@@ -15,7 +15,7 @@ use Rattle.run_semantics.specs.Fails.{FailsIn}
 use Rattle.run_semantics.specs.Leads.{Selecting}
 use Rattle.run_semantics.specs.ControlPoint.{Definition}
 use Rattle.run_semantics.specs.Selection.{Tried, begins, none_true}
-use Rattle.run_transitions.specs.Work.{IsOf}
+use Rattle.sdl_interp.specs.Work.{IsOf}
 use Rattle.sdl_system.specs.Behaviour.{StateMeaning}
 use Rattle.sdl_system.specs.Process.{table_of}
 use Rattle.sdl_system.specs.Soundness.{IsEnabled}

@@ -19,14 +19,14 @@ use Rattle.run_semantics.specs.Leads.{Selecting}
 use Rattle.run_semantics.specs.ControlPoint.{Definition, Doing, Ended, In, ControlPoint, Receiving}
 use Rattle.run_semantics.specs.Selection.{tried}
 use Rattle.run_semantics.specs.World.{IsReading, WorldValue}
-use Rattle.run_transitions.specs.Machine.{place_of, value_of}
-use Rattle.run_transitions.specs.Running.{CoreValue, IsGoing, IsReached, IsReady, seen}
-use Rattle.run_transitions.specs.Walk.{marks_of}
-use Rattle.run_transitions.specs.Work.{IsOf}
-use Rattle.run_transitions.specs.declared.machine.Machine.{Machine}
-use Rattle.run_transitions.specs.declared.machine.Position.{Position}
-use Rattle.run_transitions.specs.declared.machine.Position.TheVariants as position
-use Rattle.run_transitions.specs.declared.running.Core.{Core}
+use Rattle.sdl_interp.specs.Machine.{place_of, value_of}
+use Rattle.sdl_interp.specs.Running.{CoreValue, IsGoing, IsReached, IsReady, seen}
+use Rattle.sdl_interp.specs.Walk.{marks_of}
+use Rattle.sdl_interp.specs.Work.{IsOf}
+use Rattle.sdl_interp.specs.declared.transitions.machine.Machine.{Machine}
+use Rattle.sdl_interp.specs.declared.transitions.machine.Position.{Position}
+use Rattle.sdl_interp.specs.declared.transitions.machine.Position.TheVariants as position
+use Rattle.sdl_interp.specs.declared.transitions.running.Core.{Core}
 use Rattle.sdl_system.specs.Behaviour.{MeansContinuous, variable_meaning}
 use Rattle.sdl_system.specs.Body.{Body}
 use Rattle.sdl_system.specs.System.{SystemValue}

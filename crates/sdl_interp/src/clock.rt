@@ -3,9 +3,9 @@
 ghost use Rattle.std.specs.Prelude.{◌≡◌, ◌≤◌};
 ghost use Rattle.run_semantics.specs.World.{IsReading};
 
+use crate::transitions::Machine;
 use port_values::Ticks;
 use run_semantics::World;
-use run_transitions::Machine;
 
 /// Reads the clock. Where it lies before the time of the latest step, that time stays.
 pub fn read_clock<W: World>(machine: &mut Machine, world: &mut W) -> Ticks

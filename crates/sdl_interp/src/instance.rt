@@ -10,12 +10,12 @@ ghost use Rattle.sdl_interp.specs.Instance.{HasNothing, HasRunOf, IsAtRest, IsCl
 
 use crate::ahead::Ahead;
 use crate::stimulus::{fail_at, step_from};
+use crate::transitions::{Core, Machine, Position};
 use port_inbox::{Alone, Fuse, Inbox, Refused};
 use port_values::{Item, Ticks, Value, Values};
 use run_evaluation::{Identity, Store, Variables};
 use run_record::Record;
 use run_semantics::World;
-use run_transitions::{Core, Machine, Position};
 use sdl_system::{Process, System};
 use std::alloc::{AllocError, Global};
 use std::marker::Model;
@@ -28,7 +28,7 @@ pub struct Instance<'s, P: Inbox + Drop> {
 }
 
 impl<'s, P: Inbox + Drop> Model for Instance<'s, P> {
-    ghost use Rattle.run_transitions.specs.Running.{seen};
+    ghost use Rattle.sdl_interp.specs.Running.{seen};
     ghost use Rattle.sdl_interp.specs.Instance.{InstanceValue, IsInstance, instance_of};
     ghost use Rattle.sdl_system.specs.contracts.expression.Expression as expression;
     ghost use Rattle.std.specs.Coded.{codes};

@@ -15,6 +15,8 @@ mod received;
 mod reception;
 mod selection;
 mod stimulus;
+mod transitions;
 
 pub use ahead::Ahead;
 pub use instance::{Closed, Instance, Stepped};
+pub use transitions::{Position, sort_of};

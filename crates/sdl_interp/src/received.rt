@@ -7,13 +7,13 @@ ghost use Rattle.run_record.specs.Event.{values_got};
 ghost use Rattle.run_semantics.specs.Reception as reception;
 ghost use Rattle.run_semantics.specs.Reception.{receiving};
 ghost use Rattle.run_semantics.specs.World.{IsReading};
-ghost use Rattle.run_transitions.specs.Machine.{identity_of};
+ghost use Rattle.sdl_interp.specs.Machine.{identity_of};
 
 use crate::clock::read_clock;
+use crate::transitions::Machine;
 use port_model::Got;
 use port_values::{Pid, SignalId, Ticks, Value};
 use run_semantics::World;
-use run_transitions::Machine;
 
 /// Notes the sender of a consumed signal and the time of its transition, and that no statement of it is done yet. The
 /// answer is that time.

@@ -3,10 +3,10 @@
 ghost use Rattle.std.specs.Prelude.{◌≡◌, IfErr, OnOk};
 ghost use Rattle.sdl_interp.specs.Stimulus.{Receives, ReceivesWrong};
 
+use crate::transitions::{Machine, sort_of};
 use port_values::Value;
 use run_evaluation::place;
 use run_record::Failure;
-use run_transitions::{Machine, sort_of};
 use sdl_system::{Process, VariableId};
 
 /// Gives the values to the variables, one after the other. A value without a variable is dropped. Refused with

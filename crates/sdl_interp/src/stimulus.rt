@@ -6,8 +6,8 @@ ghost use Rattle.port_model.specs.declared.taken.Taken.TheVariants as taken;
 ghost use Rattle.sdl_interp.specs.Selected.{SelectsBy};
 ghost use Rattle.sdl_interp.specs.Stimulus.{Answered, BeginsBy, ContinuesAmiss, ContinuesBy, FailsNow, LeadsTo, Provides, ReactsAmiss, ReactsTo, RespondsAmiss, RespondsTo, Stepped, StepsAmiss, StepsTo};
 ghost use Rattle.run_semantics.specs.ControlPoint as place;
-ghost use Rattle.run_transitions.specs.Machine.{IsPositionIn};
-ghost use Rattle.run_transitions.specs.Running.{GoesOn, Reaches, ReadyAt, StaysItself, known_by, seen};
+ghost use Rattle.sdl_interp.specs.Machine.{IsPositionIn};
+ghost use Rattle.sdl_interp.specs.Running.{GoesOn, Reaches, ReadyAt, StaysItself, known_by, seen};
 ghost use Rattle.sdl_system.specs.Process.{table_of};
 
 use crate::clock::read_clock;
@@ -15,12 +15,12 @@ use crate::continuous::first_true;
 use crate::received::{name_of, receive, sender_of, values_of};
 use crate::reception::hand_out;
 use crate::selection::select;
+use crate::transitions::{Core, Position, make_room};
 use port_inbox::Inbox;
 use port_model::{Got, Selection, Taken};
 use port_values::Pid;
 use run_record::Failure;
 use run_semantics::World;
-use run_transitions::{Core, Position, make_room};
 use sdl_system::{Continuous, Reaction, Reception, StateId, StateTable};
 use std::alloc::Global;
 

@@ -18,14 +18,13 @@ mod record_text;
 mod report_text;
 mod short_name;
 mod short_names;
+mod workers;
 mod write_whole;
 
 pub use event_line::{push_event, push_signal, push_stimulus, push_values};
 pub use names::{process_name, signal_name, state_name, variable_name};
 pub use numbers::record_of;
-pub use page::Page;
 pub use pieces::{push_number, push_pid, push_signed, push_target, push_value};
-pub use record_text::push_heading;
-pub use report_text::{PIECE, push_end, send, write_event, write_report, write_rest};
-pub use short_names::ShortNames;
+pub use report_text::{PIECE, push_end, send, write_report, write_rest};
+pub use workers::write_report_by_workers;
 pub use write_whole::{WriteFault, write_text};

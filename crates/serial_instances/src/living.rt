@@ -6,7 +6,7 @@ ghost use Rattle.serial_instances.specs.Serial.{HasEnded};
 
 use crate::instances::Instances;
 use run_evaluation::Identity;
-use run_transitions::Position;
+use sdl_interp::Position;
 use sdl_system::ProcessId;
 
 impl<'s> Instances<'s> {

@@ -10,8 +10,8 @@ use Rattle.run_semantics.specs.Effect.{Effect, Deed, effects_of}
 use Rattle.run_semantics.specs.Goes.{Goes, IsOneStep}
 use Rattle.run_semantics.specs.World.{WorldValue}
 use Rattle.sdl_script.specs.declared.script.ScriptLine.{ScriptLine}
-use Rattle.run_transitions.specs.Machine.{place_of}
-use Rattle.run_transitions.specs.declared.machine.Position.TheVariants.{Ended}
+use Rattle.sdl_interp.specs.Machine.{place_of}
+use Rattle.sdl_interp.specs.declared.transitions.machine.Position.TheVariants.{Ended}
 use Rattle.sdl_system.specs.Behaviour.{Behaviour}
 use Rattle.sdl_system.specs.System.{SystemValue}
 

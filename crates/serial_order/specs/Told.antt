@@ -15,7 +15,7 @@ use Rattle.run_semantics.specs.Instance.{first_store}
 use Rattle.run_semantics.specs.ControlPoint.{AtStart}
 use Rattle.run_semantics.specs.Runs.{Runs}
 use Rattle.sdl_script.specs.declared.script.ScriptLine.{ScriptLine}
-use Rattle.run_transitions.specs.Machine.{place_of}
+use Rattle.sdl_interp.specs.Machine.{place_of}
 use Rattle.sdl_system.specs.Behaviour.{Behaviour}
 use Rattle.sdl_system.specs.System.{SystemValue}
 use Rattle.sdl_system.specs.declared.route.Target.{Target}

@@ -11,8 +11,8 @@ use Rattle.serial_instances.specs.declared.instances.Instances.{Instances}
 use Rattle.run_evaluation.specs.declared.identity.Identity.{Identity}
 use Rattle.sdl_interp.specs.Instance.{InstanceValue, IsAtRest, Keeps}
 use Rattle.serial_run.specs.Meanings.{all_at, there_is}
-use Rattle.run_transitions.specs.declared.machine.Position.{Position}
-use Rattle.run_transitions.specs.declared.machine.Position.TheVariants as position
+use Rattle.sdl_interp.specs.declared.transitions.machine.Position.{Position}
+use Rattle.sdl_interp.specs.declared.transitions.machine.Position.TheVariants as position
 use Rattle.sdl_system.specs.System.{SystemValue}
 
 -- what stands in a list where one place is changed

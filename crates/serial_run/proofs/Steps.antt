@@ -42,10 +42,10 @@ use Rattle.serial_run.specs.Meanings.{Meaning, all_at, meaning_at, nothing_due, 
 use Rattle.serial_run.proofs.Refusals.{counts_is, refused_effects}
 use Rattle.serial_run.proofs.Spent.{spent_runs}
 use Rattle.serial_run.specs.Advances.{Advances, Reaches}
-use Rattle.run_transitions.specs.Machine.{place_of}
-use Rattle.run_transitions.specs.Work.{IsOf}
-use Rattle.run_transitions.specs.declared.machine.Position.{Position}
-use Rattle.run_transitions.specs.declared.machine.Position.TheVariants as at
+use Rattle.sdl_interp.specs.Machine.{place_of}
+use Rattle.sdl_interp.specs.Work.{IsOf}
+use Rattle.sdl_interp.specs.declared.transitions.machine.Position.{Position}
+use Rattle.sdl_interp.specs.declared.transitions.machine.Position.TheVariants as at
 use Rattle.serial_sweeps.specs.Sweeps.{IsTime, IsTurnBy, Moment}
 use Rattle.sdl_system.specs.Behaviour.{Behaviour}
 use Rattle.sdl_system.specs.System.{SystemValue}

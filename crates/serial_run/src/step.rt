@@ -9,8 +9,7 @@ ghost use Rattle.serial_sweeps.specs.Sweeps.{IsNoFuseBefore, IsTime, Moment, aft
 ghost use Rattle.serial_sweeps.specs.declared.instance_set.Made.TheVariants.{Transition};
 
 use run_course::KeptWords;
-use run_transitions::Position;
-use sdl_interp::{Ahead, Stepped};
+use sdl_interp::{Ahead, Position, Stepped};
 use serial_instances::Instances;
 use serial_sweeps::{Agenda, Made};
 use serial_world::{Effects, SerialWorld};

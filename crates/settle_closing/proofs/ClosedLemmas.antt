@@ -32,9 +32,9 @@ use Rattle.run_semantics.specs.Leads.{IsQuiet}
 use Rattle.run_semantics.specs.RunLaws.{RunsAreLegal}
 use Rattle.run_semantics.specs.Runs.{Runs, outside_of, waits}
 use Rattle.run_semantics.specs.Sent.{sent_by_one, sent_to}
-use Rattle.run_transitions.specs.Machine.{place_of}
-use Rattle.run_transitions.specs.declared.machine.Position.{Position}
-use Rattle.run_transitions.specs.declared.machine.Position.TheVariants as at
+use Rattle.sdl_interp.specs.Machine.{place_of}
+use Rattle.sdl_interp.specs.declared.transitions.machine.Position.{Position}
+use Rattle.sdl_interp.specs.declared.transitions.machine.Position.TheVariants as at
 use Rattle.sdl_interp.specs.Instance.{InstanceValue, IsQuietAt, IsRunAs, closed, closing}
 use Rattle.sdl_system.specs.Behaviour.{Behaviour}
 use Rattle.sdl_system.specs.System.{SystemValue}

@@ -17,9 +17,9 @@ use Rattle.run_semantics.specs.Effect.{Deed, Effect, events_of}
 use Rattle.run_semantics.specs.Goes.{AreInner, IsInner, IsOneStep}
 use Rattle.run_semantics.specs.Leads.{IsQuiet}
 use Rattle.run_semantics.specs.World.{WorldValue}
-use Rattle.run_transitions.specs.Work.{IsOf}
-use Rattle.run_transitions.specs.declared.machine.Position.{Position}
-use Rattle.run_transitions.specs.declared.machine.Position.TheVariants as at
+use Rattle.sdl_interp.specs.Work.{IsOf}
+use Rattle.sdl_interp.specs.declared.transitions.machine.Position.{Position}
+use Rattle.sdl_interp.specs.declared.transitions.machine.Position.TheVariants as at
 use Rattle.sdl_interp.specs.Instance.{EndsBy, InstanceValue, IsAtRest, IsClosed, IsIdle, IsQuietAt, IsRunAs, Keeps, Moves, closing, work_of}
 use Rattle.sdl_interp.specs.Stimulus.{WaitsAt}
 use Rattle.sdl_system.specs.System.{SystemValue}

@@ -10,9 +10,9 @@ use Rattle.input_port.proofs.held.Held.TheSendSync as held
 use Rattle.port_inbox.specs.declared.inbox.Inbox as inbox
 use Rattle.port_values.proofs.values.Values.TheSendSync as some-values
 use Rattle.run_course.proofs.course_log.CourseLog.TheSendSync as a-course-log
-use Rattle.run_transitions.proofs.machine.Machine.TheSendSync as a-machine
-use Rattle.run_transitions.proofs.machine.Position.TheSendSync as a-position
-use Rattle.run_transitions.specs.contracts.running.Core as Core
+use Rattle.sdl_interp.proofs.transitions.machine.Machine.TheSendSync as a-machine
+use Rattle.sdl_interp.proofs.transitions.machine.Position.TheSendSync as a-position
+use Rattle.sdl_interp.specs.contracts.transitions.running.Core as Core
 use Rattle.sdl_interp.specs.contracts.instance.Instance as Instance
 use Rattle.sdl_interp.specs.contracts.instance.Instance.TheInside as InsideInstance
 use Rattle.threads_instance.proofs.doings.Doings.TheSendSync as some-doings

@@ -16,8 +16,8 @@ use Rattle.run_record.specs.Record.{RecordValue}
 use Rattle.run_semantics.specs.ControlPoint.{Definition}
 use Rattle.run_semantics.specs.Sent.{sent_by_one, sent_to}
 use Rattle.run_semantics.specs.World.{has_port}
-use Rattle.run_transitions.specs.declared.machine.Position.{Position}
-use Rattle.run_transitions.specs.declared.machine.Position.TheVariants as at
+use Rattle.sdl_interp.specs.declared.transitions.machine.Position.{Position}
+use Rattle.sdl_interp.specs.declared.transitions.machine.Position.TheVariants as at
 use Rattle.sdl_system.specs.declared.route.Target.TheVariants.{Instance}
 
 -- ---- the end of what is sent

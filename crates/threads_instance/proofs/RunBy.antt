@@ -22,10 +22,10 @@ use Rattle.run_semantics.specs.Instance.{first_store, first_variables, parameter
 use Rattle.run_semantics.specs.Leads.{Leads}
 use Rattle.run_semantics.specs.Runs.{Runs, acts, outside_of, still}
 use Rattle.run_semantics.specs.World.{WorldValue, after_deeds, after_effect, after_effects}
-use Rattle.run_transitions.specs.Machine.{place_of}
-use Rattle.run_transitions.specs.Work.{IsOf}
-use Rattle.run_transitions.specs.declared.machine.Position.{Position}
-use Rattle.run_transitions.specs.declared.machine.Position.TheVariants as at
+use Rattle.sdl_interp.specs.Machine.{place_of}
+use Rattle.sdl_interp.specs.Work.{IsOf}
+use Rattle.sdl_interp.specs.declared.transitions.machine.Position.{Position}
+use Rattle.sdl_interp.specs.declared.transitions.machine.Position.TheVariants as at
 use Rattle.sdl_interp.specs.Instance.{EndsBy, InstanceValue, IsIdle, IsQuietAt, IsRunAs, Keeps, Moves, Steps, closed, closing, created, variables_from, work_of}
 use Rattle.sdl_interp.specs.Stimulus.{WaitsAt}
 use Rattle.sdl_interp.specs.declared.instance.Stepped.{Stepped}

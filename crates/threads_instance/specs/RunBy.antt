@@ -9,7 +9,7 @@ use Rattle.run_record.specs.Event.{Event}
 use Rattle.run_semantics.specs.ControlPoint.{ControlPoint, Definition}
 use Rattle.run_semantics.specs.Effect.{Effect, effects_of}
 use Rattle.run_semantics.specs.Instance.{HasRun}
-use Rattle.run_transitions.specs.Machine.{place_of}
+use Rattle.sdl_interp.specs.Machine.{place_of}
 use Rattle.sdl_interp.specs.Instance.{InstanceValue, IsRunAs}
 
 -- All that was done is a run, which begins with these values of the parameters, and has these effects, in their order.

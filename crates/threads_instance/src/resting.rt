@@ -7,7 +7,7 @@ use threads_senders::Run;
 
 impl<'s, J: Run, P: Inbox + Drop> Rests for ThreadInstance<'s, J, P> {
     ghost use Rattle.std.specs.Prelude.{◌≡◌};
-    ghost use Rattle.run_transitions.specs.declared.machine.Position.TheVariants as at;
+    ghost use Rattle.sdl_interp.specs.declared.transitions.machine.Position.TheVariants as at;
     ghost use Rattle.sdl_interp.specs.Instance.{IsAtRest};
 
     ghost at_rest = { λ m. IsAtRest m.instance };

@@ -1,6 +1,6 @@
 -- What a job or a step of it leaves: an instance that rests, one that has ended, or one that may have more to do.
 use Rattle.std.specs.Prelude.{◌≡◌, ◌≢◌}
-use Rattle.run_transitions.specs.declared.machine.Position.TheVariants as at
+use Rattle.sdl_interp.specs.declared.transitions.machine.Position.TheVariants as at
 use Rattle.sdl_interp.specs.Instance.{InstanceValue, IsAtRest}
 use Rattle.sdl_interp.specs.declared.instance.Stepped.{Stepped}
 use Rattle.sdl_interp.specs.declared.instance.Stepped.TheVariants as stepped

@@ -8,7 +8,7 @@ use Rattle.run_evaluation.specs.Variables.{VariableList}
 use Rattle.sdl_interp.proofs.ReceptionLemmas.{left_dropped, left_none, left_same, left_taken, left_wrong, sort_is}
 use Rattle.run_semantics.proofs.Goes.{goes_still}
 use Rattle.run_semantics.specs.ControlPoint.{Receiving}
-use Rattle.run_transitions.specs.Machine.{value_of}
+use Rattle.sdl_interp.specs.Machine.{value_of}
 use Rattle.sdl_system.specs.declared.id.VariableId.{VariableId}
 use Rattle.sdl_system.specs.declared.sort.Sort.{Sort}
 use Rattle.sdl_interp.proofs.reception.hand_out.Goals as goal

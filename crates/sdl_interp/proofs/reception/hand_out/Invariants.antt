@@ -6,7 +6,7 @@ use Rattle.sdl_interp.specs.Stimulus.{HasVariables}
 use Rattle.run_semantics.specs.Goes.{AreInner, Goes}
 use Rattle.run_semantics.specs.ControlPoint.{Definition, Receiving}
 use Rattle.run_semantics.specs.World.{WorldValue}
-use Rattle.run_transitions.specs.Machine.{value_of}
+use Rattle.sdl_interp.specs.Machine.{value_of}
 use Rattle.sdl_system.specs.Body.{Body}
 use Rattle.sdl_system.specs.declared.id.StateId.{StateId}
 use Rattle.sdl_interp.proofs.reception.hand_out.Given as goal

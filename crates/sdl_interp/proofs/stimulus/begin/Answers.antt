@@ -4,9 +4,9 @@ use Rattle.run_record.specs.Event.{values_got}
 use Rattle.run_semantics.proofs.Goes.{goes_failed, goes_on, goes_until}
 use Rattle.run_semantics.specs.Goes.{AreInner, Goes, GoesWrong}
 use Rattle.run_semantics.specs.ControlPoint.{Doing, Ended, Receiving}
-use Rattle.run_transitions.proofs.Staying.{same_counted_on, same_failed}
-use Rattle.run_transitions.specs.Machine.{place_of, value_of}
-use Rattle.run_transitions.specs.Running.{CoreValue, seen}
+use Rattle.sdl_interp.proofs.Staying.{same_counted_on, same_failed}
+use Rattle.sdl_interp.specs.Machine.{place_of, value_of}
+use Rattle.sdl_interp.specs.Running.{CoreValue, seen}
 use Rattle.sdl_system.specs.declared.id.VariableId.{VariableId}
 use Rattle.sdl_interp.proofs.stimulus.begin.Goals as goal
 

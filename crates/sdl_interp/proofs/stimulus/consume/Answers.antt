@@ -11,10 +11,10 @@ use Rattle.run_record.specs.Event as event
 use Rattle.run_record.specs.declared.failure.Failure.TheVariants.{Memory}
 use Rattle.run_semantics.specs.Goes.{MachineValue}
 use Rattle.run_semantics.specs.Reception.{receiving}
-use Rattle.run_transitions.proofs.Staying.{amid_roomier}
-use Rattle.run_transitions.specs.Machine.{identity_of, value_of}
-use Rattle.run_transitions.specs.Running.{seen}
-use Rattle.run_transitions.specs.declared.machine.Machine.{Machine}
+use Rattle.sdl_interp.proofs.Staying.{amid_roomier}
+use Rattle.sdl_interp.specs.Machine.{identity_of, value_of}
+use Rattle.sdl_interp.specs.Running.{seen}
+use Rattle.sdl_interp.specs.declared.transitions.machine.Machine.{Machine}
 use Rattle.sdl_system.specs.Process.{reaction_in}
 use Rattle.sdl_system.specs.declared.state.Reaction.{Reaction}
 use Rattle.sdl_system.specs.declared.state.Reaction.TheVariants as react

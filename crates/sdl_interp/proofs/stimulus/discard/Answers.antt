@@ -5,10 +5,10 @@ use Rattle.sdl_interp.proofs.First.{discards, fails_recorded}
 use Rattle.sdl_interp.proofs.Recorded.{discarded_is, roomy_is}
 use Rattle.sdl_interp.specs.Stimulus.{Took}
 use Rattle.run_semantics.specs.Goes.{MachineValue}
-use Rattle.run_transitions.proofs.Staying.{amid_roomier}
-use Rattle.run_transitions.specs.Machine.{identity_of, value_of}
-use Rattle.run_transitions.specs.Running.{seen}
-use Rattle.run_transitions.specs.declared.machine.Machine.{Machine}
+use Rattle.sdl_interp.proofs.Staying.{amid_roomier}
+use Rattle.sdl_interp.specs.Machine.{identity_of, value_of}
+use Rattle.sdl_interp.specs.Running.{seen}
+use Rattle.sdl_interp.specs.declared.transitions.machine.Machine.{Machine}
 use Rattle.sdl_interp.proofs.stimulus.discard.Goals as goal
 
 pub returns-in_err-make_room-clause-same : goal.returns-in_err-make_room-clause-same

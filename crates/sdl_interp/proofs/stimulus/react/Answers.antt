@@ -5,7 +5,7 @@ use Rattle.port_model.specs.declared.taken.Taken.TheVariants.{Nothing}
 use Rattle.sdl_interp.proofs.Bodies.{is_inside}
 use Rattle.sdl_interp.proofs.Reacting.{table_continues}
 use Rattle.sdl_interp.specs.Stimulus.{ContinuesWith, ContinuesWrong, Reacts, ReactsWrong}
-use Rattle.run_transitions.specs.Running.{seen}
+use Rattle.sdl_interp.specs.Running.{seen}
 use Rattle.sdl_system.specs.Behaviour.{MeansContinuous}
 use Rattle.sdl_system.specs.declared.state.Continuous.{Continuous}
 use Rattle.sdl_interp.proofs.stimulus.react.Goals as goal

@@ -1,7 +1,7 @@
 use Rattle.std.proofs.Common.{length, rules, sym, tests, ◌≡◌}
 use Rattle.sdl_interp.proofs.Bodies.{has_table}
 use Rattle.sdl_interp.proofs.SelectionLemmas.{none_listed, plain_selects}
-use Rattle.run_transitions.specs.Running.{known_by, seen}
+use Rattle.sdl_interp.specs.Running.{known_by, seen}
 use Rattle.sdl_interp.proofs.stimulus.respond.Goals as goal
 
 pub returns-in_default-clause-ok : goal.returns-in_default-clause-ok

@@ -3,7 +3,7 @@ use Rattle.std.proofs.lemmas.Result.{err_from_is_err_and}
 use Rattle.run_evaluation.specs.Knowledge.{KnowledgeValue}
 use Rattle.sdl_interp.proofs.First.{fails_unselected}
 use Rattle.sdl_interp.specs.Selected.{SelectsBy, SelectsNone}
-use Rattle.run_transitions.specs.Running.{seen}
+use Rattle.sdl_interp.specs.Running.{seen}
 use Rattle.sdl_interp.proofs.stimulus.select_and_take.Goals as goal
 
 pub take_by-requires-clause-selects : goal.take_by-requires-clause-selects

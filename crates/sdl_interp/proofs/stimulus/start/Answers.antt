@@ -6,10 +6,10 @@ use Rattle.run_semantics.proofs.Goes.{step_on}
 use Rattle.run_semantics.specs.Goes.{MachineValue}
 use Rattle.run_semantics.specs.ControlPoint.{AtStart, Doing}
 use Rattle.run_record.specs.Event as event
-use Rattle.run_transitions.proofs.Staying.{going_told, same_on, same_told}
-use Rattle.run_transitions.specs.Machine.{place_of, value_of}
-use Rattle.run_transitions.specs.Running.{seen}
-use Rattle.run_transitions.specs.declared.machine.Machine.{Machine}
+use Rattle.sdl_interp.proofs.Staying.{going_told, same_on, same_told}
+use Rattle.sdl_interp.specs.Machine.{place_of, value_of}
+use Rattle.sdl_interp.specs.Running.{seen}
+use Rattle.sdl_interp.specs.declared.transitions.machine.Machine.{Machine}
 use Rattle.sdl_interp.proofs.stimulus.start.Goals as goal
 
 pub returns-clause-leads : goal.returns-clause-leads

@@ -2,9 +2,9 @@ use Rattle.std.proofs.Common.{sym, subst, Some}
 use Rattle.std.proofs.lemmas.Result.{IfErr-weaker, IfOk-weaker}
 use Rattle.sdl_interp.proofs.Instances.{answered_stepped, responds_steps}
 use Rattle.sdl_interp.specs.Stimulus.{IsAnswered, IsStepped, Responds, RespondsWrong, StepsFrom, StepsWrong}
-use Rattle.run_transitions.specs.Running.{seen}
-use Rattle.run_transitions.specs.declared.machine.Position.{Position}
-use Rattle.run_transitions.specs.declared.machine.Position.TheVariants.{In}
+use Rattle.sdl_interp.specs.Running.{seen}
+use Rattle.sdl_interp.specs.declared.transitions.machine.Position.{Position}
+use Rattle.sdl_interp.specs.declared.transitions.machine.Position.TheVariants.{In}
 use Rattle.sdl_interp.proofs.stimulus.step_from.Goals as goal
 
 pub returns-in-BeforeStart-clause-ok : goal.returns-in-BeforeStart-clause-ok

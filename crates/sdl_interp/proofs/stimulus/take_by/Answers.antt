@@ -7,11 +7,11 @@ use Rattle.sdl_interp.specs.Stimulus.{AnswersWrong, Reacts, ReactsWrong, Respond
 use Rattle.run_record.specs.declared.failure.Failure.{Failure}
 use Rattle.run_semantics.specs.ControlPoint.{Definition}
 use Rattle.run_semantics.specs.Goes.{MachineValue}
-use Rattle.run_transitions.proofs.Staying.{amid_roomier}
-use Rattle.run_transitions.specs.Machine.{identity_of, value_of}
-use Rattle.run_transitions.specs.Running.{seen}
-use Rattle.run_transitions.specs.Work.{IsOf}
-use Rattle.run_transitions.specs.declared.machine.Machine.{Machine}
+use Rattle.sdl_interp.proofs.Staying.{amid_roomier}
+use Rattle.sdl_interp.specs.Machine.{identity_of, value_of}
+use Rattle.sdl_interp.specs.Running.{seen}
+use Rattle.sdl_interp.specs.Work.{IsOf}
+use Rattle.sdl_interp.specs.declared.transitions.machine.Machine.{Machine}
 use Rattle.sdl_interp.proofs.stimulus.take_by.Goals as goal
 
 pub returns-in_err-make_room-clause-same : goal.returns-in_err-make_room-clause-same

@@ -2,7 +2,7 @@ use Rattle.std.proofs.Common.{subst, None, Some}
 use Rattle.std.proofs.lemmas.Result.{err_from_is_err_and}
 use Rattle.run_evaluation.specs.Knowledge.{KnowledgeValue, environment_of}
 use Rattle.run_semantics.specs.Selection.{tried}
-use Rattle.run_transitions.specs.Running.{seen}
+use Rattle.sdl_interp.specs.Running.{seen}
 use Rattle.sdl_interp.proofs.Reacting.{answers_failure, found_here, waits_untried}
 use Rattle.sdl_interp.specs.Selected.{IsTried}
 use Rattle.sdl_interp.proofs.stimulus.try_continuous.Goals as goal

@@ -18,7 +18,7 @@ use Rattle.serial_run.specs.Meanings.{all_at}
 use Rattle.serial_run.proofs.Steps.{IsAlone, Made, world_is, ended_rests, idle_rests, step_counts, step_fails, step_idles, stepped}
 use Rattle.serial_sweeps.specs.Sweeps.{Moment, after, at_agenda}
 use Rattle.serial_sweeps.specs.declared.instance_set.Made.TheVariants.{Failure, Transition}
-use Rattle.run_transitions.specs.declared.machine.Position.TheVariants as at
+use Rattle.sdl_interp.specs.declared.transitions.machine.Position.TheVariants as at
 use Rattle.serial_run.proofs.step.step.Goals as goal
 
 -- as many events are noted as the instance has more

@@ -13,7 +13,7 @@ use Rattle.run_order.specs.Kept.{IsStill, Waits, state_with}
 use Rattle.run_order.specs.OrderState.{OrderState}
 use Rattle.run_order.specs.declared.member.Member.{Member}
 use Rattle.run_order.specs.declared.member.Move.TheVariants as move
-use Rattle.run_transitions.specs.declared.machine.Position.TheVariants as at
+use Rattle.sdl_interp.specs.declared.transitions.machine.Position.TheVariants as at
 
 -- whoever has ended is noted no more
 pub invariant_of-self : goal.invariant_of-self

@@ -1,6 +1,6 @@
 use Rattle.std.proofs.Common.{[]}
 use Rattle.port_inbox.specs.Ends.{AloneState, single}
-use Rattle.run_transitions.specs.Running.{seen}
+use Rattle.sdl_interp.specs.Running.{seen}
 use Rattle.sdl_interp.proofs.Instances.{stands_expired}
 use Rattle.sdl_interp.proofs.instance.Instance+Alone.expire.Goals as goal
 

@@ -2,7 +2,7 @@ use Rattle.std.proofs.Common.{◌∙◌, sym, subst, Bool}
 use Rattle.sdl_interp.proofs.Instances.{Closes, closes_cut, closes_ended, closes_resting, closes_unstarted}
 use Rattle.sdl_interp.specs.Instance.{InstanceValue, IsAtRest, IsClosed}
 use Rattle.run_record.specs.Record.{RecordValue}
-use Rattle.run_transitions.specs.declared.machine.Position.{Position}
+use Rattle.sdl_interp.specs.declared.transitions.machine.Position.{Position}
 use Rattle.sdl_interp.proofs.instance.Instance.close.Goals as goal
 use Rattle.sdl_interp.proofs.instance.Instance.close.Goals.{in-BeforeStart, in-In, in-In-2, in-Ended}
 

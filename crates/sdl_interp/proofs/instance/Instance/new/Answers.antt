@@ -5,7 +5,7 @@ use Rattle.run_evaluation.specs.Variables.{VariableList}
 use Rattle.sdl_interp.proofs.Instances.{holds_ok, variables_mean}
 use Rattle.run_record.specs.Record.{RecordValue}
 use Rattle.run_semantics.proofs.Histories.{run_begins}
-use Rattle.run_transitions.specs.Machine.{identity_of}
+use Rattle.sdl_interp.specs.Machine.{identity_of}
 use Rattle.sdl_system.specs.declared.id.ProcessId.{ProcessId}
 use Rattle.sdl_interp.proofs.instance.Instance.new.Goals as goal
 

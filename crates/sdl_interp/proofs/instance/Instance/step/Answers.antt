@@ -2,11 +2,11 @@ use Rattle.std.proofs.Common.{false, subst, sym}
 use Rattle.run_semantics.specs.ControlPoint.{Definition}
 use Rattle.run_semantics.specs.Goes.{Goes, IsOneStep}
 use Rattle.run_semantics.specs.World.{WorldValue}
-use Rattle.run_transitions.proofs.Staying.{same_on}
-use Rattle.run_transitions.specs.Machine.{place_of}
-use Rattle.run_transitions.specs.Running.{seen}
-use Rattle.run_transitions.specs.Work.{IsOf}
-use Rattle.run_transitions.specs.declared.machine.Position.TheVariants.{Ended}
+use Rattle.sdl_interp.proofs.Staying.{same_on}
+use Rattle.sdl_interp.specs.Machine.{place_of}
+use Rattle.sdl_interp.specs.Running.{seen}
+use Rattle.sdl_interp.specs.Work.{IsOf}
+use Rattle.sdl_interp.specs.declared.transitions.machine.Position.TheVariants.{Ended}
 use Rattle.sdl_interp.proofs.Instances.{idle_is, stepped_is}
 use Rattle.sdl_interp.proofs.Stepping.{fails_by, keeps_by, moves_by}
 use Rattle.sdl_interp.specs.Instance.{InstanceValue, Keeps, Steps, instance_of}

@@ -1,3 +1,0 @@
-pub mod Crossing
-pub mod LineLemmas
-pub mod PieceLemmas

@@ -1,8 +1,0 @@
-use Rattle.std.proofs.Common.{◌≡◌, ◌++◌, ◌<◌, length, take}
-use Rattle.threads_report.specs.Pieces.{joined}
-use Rattle.threads_report.proofs.report_text.cut.Given as goal
-
-abbrev pub invariant-loop-piece : goal.invariant-loop-piece
-invariant-loop-piece l =
-    (joined (take l.piece-index l.pieces) ++ l.left ≡ l.fn.left)
-    × (0 < l.piece-index → 0 < length l.fn.left → length l.left < length l.fn.left)

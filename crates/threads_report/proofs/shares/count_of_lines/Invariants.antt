@@ -1,7 +1,0 @@
-use Rattle.std.proofs.Common.{◌≡◌, ◌-◌, ◌^◌, min, take}
-use Rattle.std.specs.List.{sum_by}
-use Rattle.threads_report.specs.Pieces.{line_count}
-use Rattle.threads_report.proofs.shares.count_of_lines.Given as goal
-
-abbrev pub invariant-loop-record : goal.invariant-loop-record
-invariant-loop-record l = l.lines ≡ min (sum_by line_count (take l.record-index l.records)) (2 ^ 64 - 1)
