@@ -8,9 +8,9 @@ use Rattle.run_order.specs.OrderState.{beginning, fresh}
 use Rattle.run_order.specs.Roster.{RosterValue, all_entered, with_entered}
 use Rattle.run_order.specs.declared.member.Member.{Member}
 use Rattle.sdl_interp.specs.Instance.{InstanceValue}
-use Rattle.serial_instances.proofs.LivingLemmas.{in_place}
-use Rattle.serial_instances.specs.Serial.{IsOfSystem, IsSerial}
-use Rattle.serial_instances.specs.declared.instances.Instances.{Instances}
+use Rattle.serial_run.proofs.LivingLemmas.{in_place}
+use Rattle.serial_run.specs.Serial.{IsOfSystem, IsSerial}
+use Rattle.serial_run.specs.declared.instances.Instances.{Instances}
 use Rattle.sdl_script.specs.Script.{end_of}
 use Rattle.sdl_script.specs.declared.script.ScriptLine.{ScriptLine}
 use Rattle.sdl_system.specs.System.{SystemValue}

@@ -12,7 +12,7 @@ use Rattle.run_semantics.specs.Behaves.{AreBehaviours}
 use Rattle.sdl_interp.specs.Instance.{IsAtRest, IsClosed}
 use Rattle.sdl_system.specs.Behaviour.{Behaviour}
 use Rattle.sdl_system.specs.System.{SystemValue}
-use Rattle.serial_instances.specs.Serial.{IsOfSystem}
+use Rattle.serial_run.specs.Serial.{IsOfSystem}
 use Rattle.serial_order.specs.Report.{Closes}
 
 -- those that are still rest, and have done all

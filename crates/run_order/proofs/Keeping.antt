@@ -19,9 +19,9 @@ use Rattle.sdl_interp.specs.Instance.{InstanceValue, Keeps}
 use Rattle.sdl_system.specs.System.{SystemValue}
 use Rattle.sdl_system.specs.declared.id.ProcessId.{ProcessId}
 use Rattle.sdl_system.specs.declared.process.Process.{Process}
-use Rattle.serial_instances.proofs.Changes.{IsChanged, with_port}
+use Rattle.serial_run.proofs.Changes.{IsChanged, with_port}
 use Rattle.serial_order.specs.RunState.{instance_of, with_expiry, with_put}
-use Rattle.serial_instances.specs.Serial.{IsOfSystem}
+use Rattle.serial_run.specs.Serial.{IsOfSystem}
 
 -- what stands in a list where one place is changed
 pub at_set : {X : Type 0} (xs : List X) (place k : ℕ) (new i : X) → slice_get (set xs place new) k ≡ Some i

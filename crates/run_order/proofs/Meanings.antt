@@ -7,7 +7,7 @@ use Rattle.run_semantics.specs.Behaves.{AreBehaviours, Behaves}
 use Rattle.sdl_interp.specs.Instance.{InstanceValue, IsAtRest}
 use Rattle.sdl_system.specs.Behaviour.{Behaviour}
 use Rattle.sdl_system.specs.System.{SystemValue}
-use Rattle.serial_instances.specs.Serial.{IsOfSystem}
+use Rattle.serial_run.specs.Serial.{IsOfSystem}
 use Rattle.serial_order.specs.Execution.{IsMeant, Rests}
 
 -- there is an element below the length

@@ -27,10 +27,10 @@ use Rattle.sdl_interp.specs.Instance as steps
 use Rattle.sdl_interp.specs.Instance.{InstanceValue, IsRunAs, Keeps}
 use Rattle.sdl_system.specs.Behaviour.{Behaviour}
 use Rattle.sdl_system.specs.System.{SystemValue}
-use Rattle.serial_instances.specs.Serial.{IsOfSystem}
+use Rattle.serial_run.specs.Serial.{IsOfSystem}
 use Rattle.serial_order.specs.Execution.{is_transition}
-use Rattle.serial_world.specs.StepWorld.{effect_of}
-use Rattle.serial_world.specs.declared.effect.Effect as kept
+use Rattle.serial_run.specs.StepWorld.{effect_of}
+use Rattle.serial_run.specs.declared.world.effect.Effect as kept
 
 -- ---- what a step did outside
 

@@ -19,9 +19,9 @@ use Rattle.run_semantics.specs.Effect.{Deed, Effect, effects_of, events_of}
 use Rattle.sdl_system.specs.declared.id.ProcessId.{ProcessId}
 use Rattle.sdl_system.specs.declared.route.Dest.{Dest}
 use Rattle.sdl_system.specs.declared.route.Target.{Target}
-use Rattle.serial_world.specs.StepWorld.{effect_of}
-use Rattle.serial_world.specs.declared.effect.Effect as kept
-use Rattle.serial_world.specs.declared.effect.Effect.TheVariants as did
+use Rattle.serial_run.specs.StepWorld.{effect_of}
+use Rattle.serial_run.specs.declared.world.effect.Effect as kept
+use Rattle.serial_run.specs.declared.world.effect.Effect.TheVariants as did
 
 -- ---- the next act takes the next effect
 

@@ -31,7 +31,7 @@ use Rattle.sdl_system.specs.declared.id.ProcessId.{ProcessId}
 use Rattle.sdl_system.specs.declared.route.Source.TheVariants as source
 use Rattle.sdl_system.specs.declared.route.Target.{Target}
 use Rattle.serial_order.specs.Execution.{IsNoFuseBefore, IsNoLineBefore, next_line}
-use Rattle.serial_instances.specs.Serial.{IsOfSystem}
+use Rattle.serial_run.specs.Serial.{IsOfSystem}
 use Rattle.serial_sweeps.specs.Sweeps.{until_of}
 
 -- ---- a step

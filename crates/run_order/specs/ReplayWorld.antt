@@ -3,8 +3,8 @@ use Rattle.std.specs.Prelude.{ℕ, List, Some, None, map}
 use Rattle.run_order.specs.declared.replay_world.ReplayWorld.{ReplayWorld}
 use Rattle.run_semantics.specs.World.{WorldValue}
 use Rattle.sdl_system.specs.System.{SystemValue}
-use Rattle.serial_world.specs.StepWorld.{effect_of}
-use Rattle.serial_world.specs.declared.effect.Effect.{Effect}
+use Rattle.serial_run.specs.StepWorld.{effect_of}
+use Rattle.serial_run.specs.declared.world.effect.Effect.{Effect}
 
 -- who lives isn't known in it
 abbrev pub world_with : SystemValue → ℕ → List Effect → WorldValue

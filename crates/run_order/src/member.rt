@@ -5,7 +5,7 @@ ghost use Rattle.run_order.specs.Kept.{IsKeptFrom, IsMove};
 ghost use Rattle.run_order.specs.OrderState.{fresh};
 ghost use Rattle.run_order.specs.Woven.{acts_of, fits};
 ghost use Rattle.sdl_interp.specs.Instance.{Keeps};
-ghost use Rattle.serial_world.specs.StepWorld.{effect_of};
+ghost use Rattle.serial_run.specs.StepWorld.{effect_of};
 
 use crate::answers::Answers;
 use crate::outbox::Outbox;
@@ -14,7 +14,7 @@ use port_inbox::Alone;
 use port_values::Ticks;
 use sdl_interp::{Instance, Position, Stepped};
 use sdl_system::System;
-use serial_world::Effects;
+use serial_run::Effects;
 use std::alloc::{AllocError, Global};
 
 /// An instance with a port of its own; what its latest step has still to do outside, in its order; and, if that begins

@@ -4,12 +4,12 @@ ghost use Rattle.std.specs.Prelude.{◌≡◌, ◌↔◌, ◌∷◌, [], IfOk, I
 ghost use Rattle.run_order.specs.Outbox.{PendingList};
 ghost use Rattle.run_order.specs.Pending.{behind_first};
 ghost use Rattle.run_order.specs.Woven.{acts_of, fits, woven};
-ghost use Rattle.serial_world.specs.StepWorld.{effect_of};
+ghost use Rattle.serial_run.specs.StepWorld.{effect_of};
 
 use crate::act::Act;
 use crate::pending::{Pending, next_pending};
 use run_record::{Reader, Record};
-use serial_world::Effects;
+use serial_run::Effects;
 use std::alloc::{AllocError, Global};
 use std::collections::VecDeque;
 use std::marker::Model;

@@ -2,13 +2,13 @@
 
 ghost use Rattle.std.specs.Prelude.{◌≡◌, map};
 ghost use Rattle.run_order.specs.Woven.{IsNextPending, IsOwn, is_inside};
-ghost use Rattle.serial_world.specs.StepWorld.{effect_of};
+ghost use Rattle.serial_run.specs.StepWorld.{effect_of};
 
 use crate::act::Act;
 use port_inbox::Fuse;
 use port_values::{Item, Values};
 use sdl_system::{Dest, ProcessId, Target};
-use serial_world::{Effect, Effects};
+use serial_run::{Effect, Effects};
 
 /// An event of a step that is still to be told, with what it does outside.
 #[derive(Drop)]

@@ -13,9 +13,8 @@ use crate::roster::Roster;
 use port_values::Ticks;
 use sdl_script::{Script, ScriptLine};
 use sdl_system::{ProcessId, System};
-use serial_instances::Instances;
+use serial_run::{Effects, Instances};
 use serial_sweeps::Agenda;
-use serial_world::Effects;
 use std::alloc::{AllocError, Global};
 use std::marker::Model;
 

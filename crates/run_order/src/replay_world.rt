@@ -7,7 +7,7 @@ use port_inbox::Fuse;
 use port_values::{Item, SignalId, Ticks, Values};
 use run_semantics::World;
 use sdl_system::{Dest, ProcessId, Source, System, Target};
-use serial_world::{Effect, Effects};
+use serial_run::{Effect, Effects};
 use std::alloc::AllocError;
 
 /// The clock, what the record says of what the step can't know, and what the instance has done so far. A target is one

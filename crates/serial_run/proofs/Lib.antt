@@ -1,6 +1,14 @@
+pub mod Arming
+pub mod Beginning
+pub mod Changes
+pub mod Closing
+pub mod Entering
+pub mod LivingLemmas
+pub mod Performing
 pub mod Places
 pub mod Refusals
 pub mod Report
-pub mod Spent
+pub mod SpentLemmas
 pub mod Steps
+pub mod Thinning
 pub mod Timing

@@ -9,9 +9,9 @@ use Rattle.port_inbox.specs.declared.entry.Fuse.{Fuse}
 use Rattle.serial_order.specs.Execution.{Execution, EndsInTransition, Happening, IsNoFuseBefore, IsNoLineBefore, Rests, transitions_of}
 use Rattle.serial_order.specs.RunState.{RunState, beginning, first_instances}
 use Rattle.serial_order.specs.Report.{Closes, Ends}
-use Rattle.serial_instances.specs.Serial.{IsOfSystem, IsSerial, state_of}
-use Rattle.serial_instances.specs.Thinned.{IsThinned}
-use Rattle.serial_instances.specs.declared.instances.Instances.{Instances}
+use Rattle.serial_run.specs.Serial.{IsOfSystem, IsSerial, state_of}
+use Rattle.serial_run.specs.Thinned.{IsThinned}
+use Rattle.serial_run.specs.declared.instances.Instances.{Instances}
 use Rattle.sdl_interp.specs.Instance.{InstanceValue, IsAtRest, IsClosed}
 use Rattle.run_record.specs.Record.{RecordValue}
 use Rattle.run_record.specs.declared.record.Report.{Report}

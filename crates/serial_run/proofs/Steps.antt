@@ -7,18 +7,18 @@ use Rattle.port_model.specs.History.{Expire, PortEvent, Put, Take}
 use Rattle.port_model.specs.Laws.{IsFromOutside}
 use Rattle.port_model.specs.Port.{PortState}
 use Rattle.port_model.specs.declared.taken.Taken.TheVariants.{Nothing}
-use Rattle.serial_world.specs.StepWorld.{AreNumbered, effect_of, living_now, world_of}
-use Rattle.serial_world.specs.declared.step_world.SerialWorld.{SerialWorld}
+use Rattle.serial_run.specs.StepWorld.{AreNumbered, effect_of, living_now, world_of}
+use Rattle.serial_run.specs.declared.world.step_world.SerialWorld.{SerialWorld}
 use Rattle.serial_order.proofs.Made.{MakeNext, deeds_make}
 use Rattle.serial_order.proofs.Own.{later_none}
 use Rattle.run_semantics.specs.Behaves.{AreBehaviours}
 use Rattle.serial_order.specs.Execution.{Moved, Steps, is_transition}
 use Rattle.serial_order.specs.RunState.{RunState, after_effects, world_at, living_of, instance_at, with_instance}
-use Rattle.serial_instances.proofs.LivingLemmas.{in_place}
-use Rattle.serial_instances.proofs.Thinning.{spent_with, thins_more}
-use Rattle.serial_instances.specs.Serial.{IsOfSystem, IsSerial, state_of}
-use Rattle.serial_instances.specs.Thinned.{IsThinned, is_spent_in}
-use Rattle.serial_instances.specs.declared.instances.Instances.{Instances}
+use Rattle.serial_run.proofs.LivingLemmas.{in_place}
+use Rattle.serial_run.proofs.Thinning.{spent_with, thins_more}
+use Rattle.serial_run.specs.Serial.{IsOfSystem, IsSerial, state_of}
+use Rattle.serial_run.specs.Thinned.{IsThinned, is_spent_in}
+use Rattle.serial_run.specs.declared.instances.Instances.{Instances}
 use Rattle.run_evaluation.specs.declared.identity.Identity.{Identity}
 use Rattle.run_evaluation.specs.declared.store.Store.{Store}
 use Rattle.sdl_interp.specs.Instance.{InstanceValue, IsAtRest, IsIdle, IsQuietAt, IsRunAs, Keeps, Moves, work_of}
@@ -40,7 +40,7 @@ use Rattle.serial_run.specs.Told.{NotesThese, NotesTurn}
 use Rattle.serial_run.proofs.Places.{set_there}
 use Rattle.serial_run.specs.Meanings.{Meaning, all_at, meaning_at, nothing_due, turn_by, turn_with}
 use Rattle.serial_run.proofs.Refusals.{counts_is, refused_effects}
-use Rattle.serial_run.proofs.Spent.{spent_runs}
+use Rattle.serial_run.proofs.SpentLemmas.{spent_runs}
 use Rattle.serial_run.specs.Advances.{Advances, Reaches}
 use Rattle.sdl_interp.specs.Machine.{place_of}
 use Rattle.sdl_interp.specs.Work.{IsOf}

@@ -6,10 +6,10 @@ use Rattle.sdl_timers.proofs.Thinning.{thins_all}
 use Rattle.sdl_timers.specs.DueOrder.{IsInOrder}
 use Rattle.serial_order.specs.Execution.{Expired, Expires, Heard, Hears, IsNoFuseBefore}
 use Rattle.serial_order.specs.RunState.{RunState, after_effects, expired, heard_effects}
-use Rattle.serial_instances.proofs.Thinning.{thinned_expired, thinned_heard}
-use Rattle.serial_instances.specs.Serial.{state_of}
-use Rattle.serial_instances.specs.Thinned.{IsThinned, is_spent_in}
-use Rattle.serial_instances.specs.declared.instances.Instances.{Instances}
+use Rattle.serial_run.proofs.Thinning.{thinned_expired, thinned_heard}
+use Rattle.serial_run.specs.Serial.{state_of}
+use Rattle.serial_run.specs.Thinned.{IsThinned, is_spent_in}
+use Rattle.serial_run.specs.declared.instances.Instances.{Instances}
 use Rattle.sdl_script.specs.declared.script.ScriptLine.{ScriptLine}
 use Rattle.serial_run.specs.Advances.{Reaches}
 use Rattle.serial_run.specs.Clearing.{Cleared, HasDue, advances_cleared, cleared}

@@ -3,9 +3,9 @@ use Rattle.std.specs.Prelude.{◌≡◌, ◌+◌, ℕ, List, Option}
 use Rattle.run_semantics.specs.Behaves.{AreBehaviours}
 use Rattle.serial_order.specs.Execution.{Execution, EndsInTransition, Happening, transitions_of}
 use Rattle.serial_order.specs.RunState.{RunState}
-use Rattle.serial_instances.specs.Serial.{state_of}
-use Rattle.serial_instances.specs.Thinned.{IsThinned}
-use Rattle.serial_instances.specs.declared.instances.Instances.{Instances}
+use Rattle.serial_run.specs.Serial.{state_of}
+use Rattle.serial_run.specs.Thinned.{IsThinned}
+use Rattle.serial_run.specs.declared.instances.Instances.{Instances}
 use Rattle.serial_run.specs.Told.{NotesThese, tellers_of}
 use Rattle.serial_sweeps.specs.Sweeps.{Moment}
 use Rattle.sdl_system.specs.Behaviour.{Behaviour}

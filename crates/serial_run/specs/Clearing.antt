@@ -5,10 +5,10 @@ use Rattle.port_inbox.specs.declared.entry.Fuse.{Fuse}
 use Rattle.sdl_timers.proofs.Firing.{no_earlier}
 use Rattle.sdl_timers.specs.DueOrder.{IsInOrder, is_before}
 use Rattle.sdl_timers.specs.Thinned.{Thins}
-use Rattle.serial_instances.proofs.Thinning.{same_expiry}
-use Rattle.serial_instances.specs.Serial.{state_of}
-use Rattle.serial_instances.specs.Thinned.{IsThinned, is_spent_in, is_spent_of}
-use Rattle.serial_instances.specs.declared.instances.Instances.{Instances}
+use Rattle.serial_run.proofs.Thinning.{same_expiry}
+use Rattle.serial_run.specs.Serial.{state_of}
+use Rattle.serial_run.specs.Thinned.{IsThinned, is_spent_in, is_spent_of}
+use Rattle.serial_run.specs.declared.instances.Instances.{Instances}
 use Rattle.serial_order.specs.Execution.{Execution, Expired, Expires, Follows, Happening, IsNoFuseBefore, IsTransition, begins, goes, transitions_of, transitions_of_one}
 use Rattle.serial_order.specs.RunState.{RunState, changed_at, expired, instance_at, with_expiry, with_instance}
 use Rattle.serial_run.specs.Advances.{Advances}

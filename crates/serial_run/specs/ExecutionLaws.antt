@@ -4,9 +4,9 @@ use Rattle.run_course.specs.KeptWords.{Notes, with_all}
 use Rattle.run_semantics.specs.Behaves.{AreBehaviours}
 use Rattle.serial_order.specs.Execution.{Execution, EndsInTransition, Follows, Happening, IsTransition, begins, goes, transitions_of, transitions_of_one}
 use Rattle.serial_order.specs.RunState.{RunState}
-use Rattle.serial_instances.specs.Serial.{state_of}
-use Rattle.serial_instances.specs.Thinned.{IsThinned}
-use Rattle.serial_instances.specs.declared.instances.Instances.{Instances}
+use Rattle.serial_run.specs.Serial.{state_of}
+use Rattle.serial_run.specs.Thinned.{IsThinned}
+use Rattle.serial_run.specs.declared.instances.Instances.{Instances}
 use Rattle.serial_run.specs.Advances.{Advances, Reaches}
 use Rattle.serial_run.specs.Told.{NotesThese, teller_of, tellers_of}
 use Rattle.serial_sweeps.specs.Sweeps.{Moment}

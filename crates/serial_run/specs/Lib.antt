@@ -1,7 +1,12 @@
 pub mod Advances
 pub mod Clearing
+pub mod Counts
+pub mod Effects
 pub mod ExecutionLaws
 pub mod Meanings
+pub mod Serial
+pub mod StepWorld
+pub mod Thinned
 pub mod Ticks
 pub mod Told
 pub mod Winding

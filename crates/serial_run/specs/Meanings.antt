@@ -7,8 +7,8 @@ use Rattle.std.proofs.lemmas.Option.{get_or_from_slice_get, slice_get_within}
 use Rattle.port_inbox.specs.declared.entry.Fuse.{Fuse}
 use Rattle.serial_order.specs.Execution.{IsMeant, IsNoLineBefore, IsNothingDue, IsTurn, RestBetween, Rests, begins_anew, goes_on, next_line}
 use Rattle.serial_order.specs.RunState.{RunState, instance_at}
-use Rattle.serial_instances.specs.Serial.{IsOfSystem, IsSerial, state_of}
-use Rattle.serial_instances.specs.declared.instances.Instances.{Instances}
+use Rattle.serial_run.specs.Serial.{IsOfSystem, IsSerial, state_of}
+use Rattle.serial_run.specs.declared.instances.Instances.{Instances}
 use Rattle.sdl_interp.specs.Instance.{InstanceValue, IsAtRest}
 use Rattle.run_semantics.specs.Behaves.{AreBehaviours, Behaves}
 use Rattle.sdl_script.specs.declared.script.ScriptLine.{ScriptLine}

@@ -9,9 +9,9 @@ use Rattle.sdl_script.specs.declared.script.ScriptLine.{ScriptLine}
 use Rattle.sdl_timers.proofs.Thinning.{thins_all}
 use Rattle.sdl_timers.specs.DueOrder.{IsInOrder}
 use Rattle.sdl_timers.specs.Thinned.{Thins}
-use Rattle.serial_instances.specs.Serial.{IsSerial, state_of}
-use Rattle.serial_instances.specs.Thinned.{IsThinned, is_spent_in}
-use Rattle.serial_instances.specs.declared.instances.Instances.{Instances}
+use Rattle.serial_run.specs.Serial.{IsSerial, state_of}
+use Rattle.serial_run.specs.Thinned.{IsThinned, is_spent_in}
+use Rattle.serial_run.specs.declared.instances.Instances.{Instances}
 use Rattle.serial_order.specs.Execution.{IsNoFuseBefore, IsNoLineBefore, IsNothingDue, Rests, Ticked, Ticks, next_line}
 use Rattle.serial_order.specs.RunState.{RunState}
 use Rattle.sdl_interp.specs.Instance.{IsAtRest}

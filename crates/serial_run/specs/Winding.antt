@@ -8,7 +8,7 @@ use Rattle.port_model.specs.Timers.{IsLeast, earlier}
 use Rattle.sdl_script.specs.declared.script.ScriptLine.{ScriptLine}
 use Rattle.sdl_timers.specs.DueOrder.{IsInOrder}
 use Rattle.sdl_timers.specs.Thinned.{Thins}
-use Rattle.serial_instances.specs.Thinned.{is_spent_in}
+use Rattle.serial_run.specs.Thinned.{is_spent_in}
 use Rattle.serial_order.specs.Execution.{Execution, Expired, Expires, Happening, IsNoFuseBefore, IsNoLineBefore, Rests, Ticked, Ticks, begins, goes, next_line, transitions_of}
 use Rattle.serial_order.specs.RunState.{RunState}
 use Rattle.serial_run.specs.Clearing.{all_late, same_expired}

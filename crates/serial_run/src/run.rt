@@ -6,16 +6,16 @@ ghost use Rattle.serial_order.specs.Report.{IsSerialReport};
 ghost use Rattle.serial_run.specs.Told.{IsSerialRun};
 ghost use Rattle.sdl_system.specs.Behaviour.{Behaviour};
 
+use crate::instances::Instances;
 use crate::listener::{Listener, Nobody};
 use crate::stepping::Stepping;
+use crate::world::Effects;
 use port_values::Ticks;
 use run_course::KeptWords;
 use run_record::{Report, RunError};
 use sdl_script::Script;
 use sdl_system::System;
-use serial_instances::Instances;
 use serial_sweeps::{Agenda, InstanceSet, Scheduler};
-use serial_world::Effects;
 use std::alloc::Global;
 
 /// What a serial run comes to.

@@ -1,18 +1,18 @@
 //! A step of an instance of the run, with all that it does to others.
 
 ghost use Rattle.std.specs.Prelude.{◌≡◌, ◌⊎◌, ◌+◌, ◌-◌, ◌<◌, ◌≤◌, ℕ, Contains, IfOk, OnOk, Some, length, replicate, slice_get, vec_len};
-ghost use Rattle.serial_instances.specs.Serial.{IsSerial};
+ghost use Rattle.serial_run.specs.Serial.{IsSerial};
 ghost use Rattle.serial_run.specs.Advances.{Reaches};
 ghost use Rattle.sdl_interp.specs.Instance.{InstanceValue};
 ghost use Rattle.serial_run.specs.Told.{NotesThese};
 ghost use Rattle.serial_sweeps.specs.Sweeps.{IsNoFuseBefore, IsTime, Moment, after, at_agenda};
 ghost use Rattle.serial_sweeps.specs.declared.instance_set.Made.TheVariants.{Transition};
 
+use crate::instances::Instances;
+use crate::world::{Effects, SerialWorld};
 use run_course::KeptWords;
 use sdl_interp::{Ahead, Position, Stepped};
-use serial_instances::Instances;
 use serial_sweeps::{Agenda, Made};
-use serial_world::{Effects, SerialWorld};
 use std::alloc::{AllocError, Global};
 
 /// One step of the instance with this number, and all that it does outside. Its acts lie in `effects` meanwhile. For each

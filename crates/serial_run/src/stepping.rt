@@ -1,13 +1,13 @@
 //! What the sweeps of a run ask of its instances.
 
+use crate::instances::Instances;
 use crate::listener::Listener;
 use crate::step::step;
+use crate::world::Effects;
 use port_inbox::Fuse;
 use run_course::KeptWords;
 use sdl_script::ScriptLine;
-use serial_instances::Instances;
 use serial_sweeps::{Agenda, InstanceSet, Made};
-use serial_world::Effects;
 use std::alloc::{AllocError, Global};
 
 /// The instances of a run, the acts of a step, who hears of transitions, and whose events were told, if that is kept: the
@@ -22,7 +22,7 @@ pub struct Stepping<'s, L> {
 
 impl<'s, L: Listener> InstanceSet for Stepping<'s, L> {
     ghost use Rattle.std.specs.Prelude.{All};
-    ghost use Rattle.serial_instances.specs.Serial.{IsSerial};
+    ghost use Rattle.serial_run.specs.Serial.{IsSerial};
     ghost use Rattle.sdl_interp.specs.Instance.{IsAtRest};
     ghost use Rattle.serial_run.specs.Advances.{Reaches};
     ghost use Rattle.serial_run.specs.ExecutionLaws.{reaches_on, reaches_same};

@@ -5,7 +5,7 @@ use Rattle.run_order.specs.Woven.{IsNextPending}
 use Rattle.run_order.specs.declared.act.Act.{Act}
 use Rattle.run_order.specs.declared.act.Act.TheVariants as act
 use Rattle.run_order.specs.declared.pending.Pending.TheVariants as pending
-use Rattle.serial_world.specs.StepWorld.{effect_of}
+use Rattle.serial_run.specs.StepWorld.{effect_of}
 
 -- ---- no effect is left
 

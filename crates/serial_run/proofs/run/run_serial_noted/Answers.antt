@@ -1,6 +1,6 @@
 use Rattle.std.proofs.Common.{◌≡◌, ◌⊎◌, ◌∙◌, ap, inl, inr, subst, sym, IfOk, IsTrue, List, OnOk, ℕ}
 use Rattle.serial_order.specs.RunState.{beginning}
-use Rattle.serial_instances.specs.Serial.{IsSerial, state_of}
+use Rattle.serial_run.specs.Serial.{IsSerial, state_of}
 use Rattle.serial_run.proofs.Report.{IsWhole, begins_so, report}
 use Rattle.serial_run.specs.Advances.{Reaches}
 use Rattle.serial_run.proofs.run.run_serial_noted.Goals as goal

@@ -3,11 +3,11 @@ use Rattle.std.specs.Prelude.{Contains, ◌↔◌}
 use Rattle.std.proofs.lemmas.List.{length-set}
 use Rattle.std.proofs.lemmas.Option.{slice_get_read, slice_get_within}
 use Rattle.port_inbox.specs.Ends.{OwnerState}
-use Rattle.serial_world.specs.StepWorld.{AreNumbered, effect_of, world_of}
+use Rattle.serial_run.specs.StepWorld.{AreNumbered, effect_of, world_of}
 use Rattle.serial_order.specs.RunState.{world_at, living_of, is_ended}
-use Rattle.serial_instances.specs.Serial.{IsOfSystem, state_of}
-use Rattle.serial_instances.specs.Thinned.{IsThinned}
-use Rattle.serial_instances.specs.declared.instances.Instances.{Instances}
+use Rattle.serial_run.specs.Serial.{IsOfSystem, state_of}
+use Rattle.serial_run.specs.Thinned.{IsThinned}
+use Rattle.serial_run.specs.declared.instances.Instances.{Instances}
 use Rattle.run_evaluation.specs.declared.identity.Identity.{Identity}
 use Rattle.sdl_interp.specs.Instance.{EndsBy, InstanceValue, IsIdle, Moves}
 use Rattle.run_semantics.specs.World.{Living, WorldValue}

@@ -1,8 +1,8 @@
 use Rattle.std.proofs.Common.{◌≡◌, ◌≢◌, ◌∙◌, ℕ, List, suc, Some, refl, ap, sym, subst, arith, rules, slice_get, set, length}
 use Rattle.std.specs.Prelude.{Contains, ◌↔◌}
 use Rattle.std.proofs.lemmas.Option.{slice_get_read}
-use Rattle.serial_instances.specs.Serial.{AreMarked, IsSerial}
-use Rattle.serial_instances.specs.declared.instances.Instances.{Instances}
+use Rattle.serial_run.specs.Serial.{AreMarked, IsSerial}
+use Rattle.serial_run.specs.declared.instances.Instances.{Instances}
 use Rattle.serial_order.specs.RunState.{living_of}
 use Rattle.sdl_interp.specs.Instance.{InstanceValue}
 use Rattle.serial_run.proofs.Places.{marked_off, serial_set, set_there}

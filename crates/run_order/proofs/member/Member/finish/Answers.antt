@@ -3,7 +3,7 @@ use Rattle.run_order.proofs.member.Member.finish.Goals as goal
 use Rattle.run_order.specs.Pending.{behind_first}
 use Rattle.run_order.specs.Woven.{acts_of, fits, woven}
 use Rattle.run_record.specs.Event.{Event}
-use Rattle.serial_world.specs.StepWorld.{effect_of}
+use Rattle.serial_run.specs.StepWorld.{effect_of}
 
 pub returns-then-fits-clause-made : goal.returns-then-fits-clause-made
 returns-then-fits-clause-made c =

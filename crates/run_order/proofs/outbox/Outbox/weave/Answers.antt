@@ -3,7 +3,7 @@ use Rattle.run_order.proofs.Weaving.{amiss_told, fit_told, weave_told}
 use Rattle.run_order.proofs.outbox.Outbox.weave.Goals as goal
 use Rattle.run_order.specs.Woven.{acts_of, fits, woven}
 use Rattle.run_record.specs.Event.{Event}
-use Rattle.serial_world.specs.StepWorld.{effect_of}
+use Rattle.serial_run.specs.StepWorld.{effect_of}
 
 pub loop-told-init : goal.loop-told-init
 loop-told-init c =

@@ -1,7 +1,7 @@
 use Rattle.std.proofs.Common.{◌≡◌, ◌++◌, drop, map}
 use Rattle.run_order.specs.Woven.{acts_of, fits, woven}
 use Rattle.run_order.proofs.outbox.Outbox.weave.Given as goal
-use Rattle.serial_world.specs.StepWorld.{effect_of}
+use Rattle.serial_run.specs.StepWorld.{effect_of}
 
 -- what is there, with what the events and the effects that are left have to do, is all; and these fit where all do
 abbrev pub invariant-loop-told : goal.invariant-loop-told

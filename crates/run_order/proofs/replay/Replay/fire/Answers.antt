@@ -6,7 +6,7 @@ use Rattle.run_order.proofs.Orders.{order_is}
 use Rattle.run_order.proofs.replay.Replay.fire.Goals as goal
 use Rattle.run_order.specs.Kept.{state_with}
 use Rattle.run_order.specs.OrderState.{OrderState}
-use Rattle.serial_instances.proofs.Changes.{expiry_is}
+use Rattle.serial_run.proofs.Changes.{expiry_is}
 use Rattle.serial_order.specs.RunState.{with_expiry}
 
 pub returns-in_default-clause-leads : goal.returns-in_default-clause-leads
