@@ -3,12 +3,11 @@
 ghost use Rattle.std.specs.Prelude.{◌≡◌, All, IfOk, IfSome, Some, length, vec_len};
 ghost use Rattle.settle_meaning.specs.Settled.{IsSettledReport};
 ghost use Rattle.settle_run.specs.Course.{HasRows};
-ghost use Rattle.threads_environment.specs.Environment.{IsOfEnv};
+ghost use Rattle.threads_shared.specs.Environment.{IsOfEnv};
 ghost use Rattle.threads_ports.specs.Named.{AreMade, AreNamed};
 
 use crate::watch::{Stage, Watch};
 use run_record::RunError;
-use sdl_instances::{Entries, Seat, Table};
 use sdl_script::ScriptLine;
 use sdl_system::System;
 use sdl_timers::{NewClock, Reader, clock};
@@ -16,13 +15,10 @@ use settle_run::{Settled, settle};
 use std::alloc::Global;
 use std::sync::Wait;
 use std::thread::Threads;
-use threads_crew::{begin, direct};
-use threads_environment::Environment;
-use threads_ports::{NewPorts, NumberSeat, Numbers, Ports};
-use threads_queue::Places;
-use threads_senders::Run;
-use threads_shared::{Common, Own, Shared, Tables};
-use threads_workers::{Director, Gate};
+use threads_instance::Places;
+use threads_ports::{Entries, NewPorts, NumberSeat, Numbers, Ports, Run, Seat, Table};
+use threads_shared::{Common, Environment, Own, Shared, Tables};
+use threads_workers::{Director, Gate, begin, direct};
 
 /// The plan of a run: the lines of its script, how many workers it has, its limit of transitions, and whether its
 /// course is kept, so that the order of all can be told.

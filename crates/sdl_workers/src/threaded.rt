@@ -5,13 +5,12 @@ ghost use Rattle.sdl_script.specs.Script.{SendsFromEnv};
 ghost use Rattle.settle_meaning.specs.Headline.{IsHeadline};
 ghost use Rattle.settle_meaning.specs.Settled.{IsSettledReport};
 ghost use Rattle.settle_run.specs.Course.{HasRows};
-ghost use Rattle.threads_environment.specs.Environment.{IsOfEnv};
+ghost use Rattle.threads_shared.specs.Environment.{IsOfEnv};
 
 use crate::naming::{Plan, run_named};
 use crate::stack::touch_stack;
 use crate::watch::Watch;
 use run_record::{Report, RunError};
-use sdl_instances::birth;
 use sdl_script::Script;
 use sdl_system::System;
 use settle_meaning::laws::settled_reports_have_headline;
@@ -21,6 +20,7 @@ use std::marker::Brand;
 use std::sync::Wait;
 use std::thread::Threads;
 use threads_ports::birth as ports;
+use threads_ports::instances::birth;
 use threads_workers::Gate;
 
 /// Runs a system on a script, on so many threads beside the calling one, which is the environment: until nobody can act,

@@ -15,7 +15,7 @@ use Rattle.settle_summing.specs.Summary.{HasBirthAfter, IsSummary}
 use Rattle.settle_summing.specs.declared.creating.Birth.{Birth}
 use Rattle.settle_summing.specs.declared.flows.Flow.{Flow}
 use Rattle.settle_summing.specs.declared.summary.Summary.{Summary}
-use Rattle.threads_senders.specs.Peers.{PeersState, put_to}
+use Rattle.threads_ports.specs.Peers.{PeersState, put_to}
 
 -- places past the end of a list have these
 pub no_flow : Flow

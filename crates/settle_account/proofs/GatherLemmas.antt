@@ -13,8 +13,8 @@ use Rattle.settle_account.specs.Account.{AllAt, AreCountsOf, HavePut, IsCountOf}
 use Rattle.settle_account.specs.Gatherings.{AreGatheringsOf, HasGathered, IsGatheredBut, IsGatheringOf}
 use Rattle.settle_gathering.specs.Gathering.{CountedState, GatheringState, PutNothing}
 use Rattle.settle_meaning.specs.Identities.{AreRising}
-use Rattle.threads_senders.proofs.SenderLemmas.{put_in}
-use Rattle.threads_senders.specs.Peers.{PeersState, is_known, put_by, put_to, sender_to}
+use Rattle.threads_ports.proofs.SenderLemmas.{put_in}
+use Rattle.threads_ports.specs.Peers.{PeersState, is_known, put_by, put_to, sender_to}
 
 -- ---- lists
 

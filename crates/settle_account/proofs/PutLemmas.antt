@@ -18,7 +18,7 @@ use Rattle.settle_meaning.specs.Identities.{AreRising}
 use Rattle.settle_meaning.specs.Order.{AreInOrder, IsOneInOrder, heard_from, times_heard}
 use Rattle.settle_meaning.specs.Times.{sends}
 use Rattle.settle_meaning.specs.Puts.{ArePut, EndsWith, Heard, IsNamed, IsOfOne, IsPutBy, IsPutByEnv, heard_by, sent_by}
-use Rattle.threads_senders.specs.Peers.{PeersState, put_to}
+use Rattle.threads_ports.specs.Peers.{PeersState, put_to}
 
 -- ---- numbers that rise
 

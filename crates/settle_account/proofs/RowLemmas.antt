@@ -7,7 +7,7 @@ use Rattle.run_semantics.specs.World.{most_instances}
 use Rattle.settle_account.specs.Account.{IsAllHeard, IsAllPut}
 use Rattle.settle_checks.specs.Outputs.{IsEnough, IsEnoughHeard}
 use Rattle.settle_meaning.specs.Puts.{Heard, IsNamed}
-use Rattle.threads_senders.specs.Peers.{PeersState, put_to}
+use Rattle.threads_ports.specs.Peers.{PeersState, put_to}
 
 -- the row has at each of so many numbers how many signals were put into the port of that number
 abbrev pub IsRowTo : PeersState → ℕ → List ℕ → Type 0

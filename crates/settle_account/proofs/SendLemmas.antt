@@ -34,7 +34,7 @@ use Rattle.settle_summing.specs.declared.crossings.Crossing.{Crossing}
 use Rattle.settle_summing.specs.declared.flows.Flow.{Flow}
 use Rattle.settle_summing.specs.declared.flows.Pass.{Pass}
 use Rattle.settle_summing.specs.declared.summary.Summary.{Summary}
-use Rattle.threads_senders.specs.Peers.{PeersState, put_to}
+use Rattle.threads_ports.specs.Peers.{PeersState, put_to}
 
 -- ---- counts
 

@@ -25,7 +25,7 @@ use Rattle.settle_summing.specs.declared.creating.Birth.{Birth}
 use Rattle.settle_summing.specs.declared.flows.Flow.{Flow}
 use Rattle.input_port.specs.Counts.{signals_in}
 use Rattle.port_values.specs.declared.pid.Pid.TheVariants.{Env, Of}
-use Rattle.threads_senders.specs.Peers.{ArePeers, ArePeersOf, PeersState, put_to}
+use Rattle.threads_ports.specs.Peers.{ArePeers, ArePeersOf, PeersState, put_to}
 
 -- ---- places
 

@@ -4,7 +4,7 @@ use Rattle.port_values.specs.declared.item.Item.{Item}
 use Rattle.run_record.specs.Record.{RecordValue}
 use Rattle.settle_account.specs.Account.{AllAt}
 use Rattle.settle_gathering.specs.Gathering.{GatheringState, PutNothing}
-use Rattle.threads_senders.specs.Peers.{PeersState, put_to}
+use Rattle.threads_ports.specs.Peers.{PeersState, put_to}
 
 -- ---- whose ports they are
 

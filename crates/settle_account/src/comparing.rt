@@ -17,7 +17,7 @@ use sdl_system::{System, Target};
 use settle_checks::named;
 use settle_summing::Summary;
 use std::alloc::Global;
-use threads_senders::{Peers, Run};
+use threads_ports::{Peers, Run};
 
 /// Compares the records, by their summaries, with each other and with what the senders of all places have put. `lines` are
 /// the lines of the script that were heard, the first ones of `script`, and `targets` has where their signals went.

@@ -13,7 +13,7 @@ use settle_gathering::{Counted, Fault, Fixed, Gathering};
 use settle_summing::place_of;
 use std::alloc::Global;
 use std::sync::Wait;
-use threads_senders::{Peer, Peers, Run};
+use threads_ports::{Peer, Peers, Run};
 
 /// Lets the port of each record gather its senders of all places, draws it to its end and counts it. So each sender is
 /// looked at once, and each port. That the name says what the places have put and who the owners are is the caller's

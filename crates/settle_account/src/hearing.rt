@@ -20,7 +20,7 @@ use sdl_script::ScriptLine;
 use sdl_system::Target;
 use settle_summing::{Crossing, Pass, Summary};
 use std::alloc::{AllocError, Global};
-use threads_senders::{Peers, Run};
+use threads_ports::{Peers, Run};
 
 /// What the environment sends, by the lines of the script and where the signals of the first of them went, and its senders
 /// have put. Lost: a signal is missing of a line after the create of its receiver, with that one's number; or a line is

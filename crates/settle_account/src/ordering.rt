@@ -17,7 +17,7 @@ use sdl_system::Target;
 use settle_summing::laws::{covered_are_in_order, sends_are_in_turn};
 use settle_summing::{Crossing, Summary, add_taken, are_covered};
 use std::alloc::Global;
-use threads_senders::{Peers, Run};
+use threads_ports::{Peers, Run};
 
 /// Compares when signals were taken with when they were sent, of all that the senders of all places have put; and looks
 /// whether what is missing was sent before there was its receiver. `lines` are those of the script, and `targets` has where

@@ -9,7 +9,7 @@ ghost use Rattle.settle_checks.specs.Outputs.{AreNamed, targets_of};
 ghost use Rattle.settle_meaning.specs.Puts.{Heard};
 ghost use Rattle.settle_summing.specs.Summary.{AreSummaries, IsSummary};
 ghost use Rattle.settle_summing.specs.Totals.{AreTotals};
-ghost use Rattle.threads_senders.specs.Peers.{put_to};
+ghost use Rattle.threads_ports.specs.Peers.{put_to};
 
 use port_values::Pid;
 use run_record::{Record, RunError};
@@ -17,7 +17,7 @@ use sdl_system::Target;
 use settle_checks as checks;
 use settle_summing::{Summary, Totals, is_enough};
 use std::alloc::{AllocError, Global};
-use threads_senders::{Peers, Run};
+use threads_ports::{Peers, Run};
 
 /// The greatest number that an instance may have.
 const MOST_INSTANCES: u32 = 1_000;

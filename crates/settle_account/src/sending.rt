@@ -8,7 +8,7 @@ ghost use Rattle.settle_summing.specs.Flows.{counted, is_with, sent_passes};
 ghost use Rattle.settle_summing.specs.Summary.{IsSummary};
 ghost use Rattle.settle_summing.specs.Totals.{AreTotals, total};
 ghost use Rattle.settle_summing.specs.declared.creating.Birth.{Birth};
-ghost use Rattle.threads_senders.specs.Peers.{put_to};
+ghost use Rattle.threads_ports.specs.Peers.{put_to};
 
 use port_values::Pid;
 use run_record::{Record, RunError};
@@ -16,7 +16,7 @@ use settle_summing::{
     Birth, Crossing, Flow, Pass, Summary, Totals, add_sent, flows_of, late_flows, passes_of,
 };
 use std::alloc::Global;
-use threads_senders::{Peers, Run};
+use threads_ports::{Peers, Run};
 
 /// Adds what the record sends and its senders have put. Lost: a signal is missing that was sent after the create of its
 /// receiver, with that one's number.

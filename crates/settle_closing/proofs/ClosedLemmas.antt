@@ -55,7 +55,7 @@ use Rattle.threads_instance.proofs.RunBy.{by_closed}
 use Rattle.threads_instance.specs.Doings.{children_of}
 use Rattle.threads_instance.specs.RunBy.{IsRunBy}
 use Rattle.threads_instance.specs.declared.doings.Child.{Child}
-use Rattle.threads_senders.specs.Peers.{AreLast, PeersState, put_to}
+use Rattle.threads_ports.specs.Peers.{AreLast, PeersState, put_to}
 
 -- ---- what is drawn after a close
 

@@ -29,7 +29,7 @@ use Rattle.threads_instance.specs.Doings.{children_of}
 use Rattle.threads_instance.specs.RunBy.{HasRunBy}
 use Rattle.threads_instance.specs.ThreadInstance.{HasPut, IsSeated}
 use Rattle.threads_instance.specs.declared.doings.Child.{Child}
-use Rattle.threads_senders.specs.Peers.{PeersState}
+use Rattle.threads_ports.specs.Peers.{PeersState}
 
 -- ---- events with which no transition begins
 

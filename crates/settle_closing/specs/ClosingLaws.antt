@@ -14,7 +14,7 @@ use Rattle.settle_closing.specs.History.{EndsAs, HasHistoryOf}
 use Rattle.settle_closing.specs.Left.{IsLeft, IsLeftOfOne}
 use Rattle.settle_gathering.specs.Gathering.{Draws}
 use Rattle.threads_instance.specs.declared.doings.Child.{Child}
-use Rattle.threads_senders.specs.Peers.{ArePeersOf, PeersState}
+use Rattle.threads_ports.specs.Peers.{ArePeersOf, PeersState}
 
 -- What is left of an instance of the system has a history of its port, in which just the signals are put that its owner
 -- has drawn in the end.

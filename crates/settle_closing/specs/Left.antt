@@ -16,7 +16,7 @@ use Rattle.threads_instance.specs.Doings.{children_of}
 use Rattle.threads_instance.specs.RunBy.{HasRunBy}
 use Rattle.threads_instance.specs.ThreadInstance.{HasPut, IsSeated}
 use Rattle.threads_instance.specs.declared.doings.Child.{Child}
-use Rattle.threads_senders.specs.Peers.{PeersState}
+use Rattle.threads_ports.specs.Peers.{PeersState}
 
 -- The record of this instance is closed, and these are its port's owner and its senders as it was closed. It had its
 -- seat in the run, all that it did is a run of its process, and in a whole run it was at rest. The run began with these

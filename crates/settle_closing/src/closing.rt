@@ -11,7 +11,7 @@ use run_record::Record;
 use std::marker::Model;
 use std::sync::Wait;
 use threads_instance::{Gifts, Left};
-use threads_senders::{Peers, Run};
+use threads_ports::{Peers, Run};
 
 /// A closed instance: its record, its port, its senders, what it was given and gave, and what is kept of its course. The
 /// type keeps that the record is a run of the instance's process, which began with the values that it was given and created

@@ -16,7 +16,7 @@ use run_record::RunError;
 use sdl_interp::Stepped;
 use std::sync::Wait;
 use threads_instance::ThreadInstance;
-use threads_senders::Run;
+use threads_ports::Run;
 use threads_shared::{Own, Seated, Shared, StepRuntime, note_stepped};
 
 /// Closes the record of an instance. In a `whole` run it makes one step more, at this time, by which it shows that it

@@ -19,7 +19,7 @@ use Rattle.port_inbox.specs.declared.placed.Placed.{Placed}
 use Rattle.port_model.specs.Port.{PortState}
 use Rattle.port_queue.specs.Calls.{Gathers}
 use Rattle.port_queue.specs.Ends.{SenderState, sent_by}
-use Rattle.threads_senders.proofs.Signals.{count_by-signals}
+use Rattle.threads_ports.proofs.Signals.{count_by-signals}
 use Rattle.settle_gathering.specs.Gathering.{Draws, LateIsNothing}
 
 draws_on : (pid : ℕ) (port : PortState) (first later : List Placed)

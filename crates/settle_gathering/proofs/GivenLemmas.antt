@@ -9,8 +9,8 @@ use Rattle.port_inbox.specs.declared.placed.Placed.{Placed}
 use Rattle.port_queue.proofs.PutLists.{of-append}
 use Rattle.port_queue.specs.Ends.{SenderState, signals_by}
 use Rattle.port_values.specs.declared.item.Item.{Item}
-use Rattle.threads_senders.proofs.Signals.{count_by-signals, signals_in-append}
-use Rattle.threads_senders.specs.Peers.{put_by}
+use Rattle.threads_ports.proofs.Signals.{count_by-signals, signals_in-append}
+use Rattle.threads_ports.specs.Peers.{put_by}
 use Rattle.settle_gathering.proofs.DrawLemmas.{DrawsMore, TakesIn, draws_more, draws_none}
 use Rattle.settle_gathering.specs.Gathering.{AreHeld, Given, IsCounted, IsFirst, IsGathering, PutNothing, numbers_of, put_by_all}
 

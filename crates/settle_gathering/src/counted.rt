@@ -8,7 +8,7 @@ use crate::fixed::Fixed;
 use input_port::Held;
 use std::marker::{Model, PhantomData};
 use std::sync::Wait;
-use threads_senders::Run;
+use threads_ports::Run;
 
 /// A port of which as many signals were drawn as the senders of all places have put. `at` is its place among the
 /// owners, `number` its number, and there are so many `places`.

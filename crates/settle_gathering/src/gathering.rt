@@ -1,7 +1,7 @@
 //! A port that gathers its senders.
 
 ghost use Rattle.std.specs.Prelude.{◌≡◌, ◌+◌, ◌≤◌, IfOk, OnOk};
-ghost use Rattle.threads_senders.specs.Peers.{put_by};
+ghost use Rattle.threads_ports.specs.Peers.{put_by};
 ghost use Rattle.settle_gathering.specs.Gathering.{PutNothing};
 
 use crate::counted::Counted;
@@ -10,7 +10,7 @@ use crate::fixed::Fixed;
 use input_port::{Held, Sender};
 use std::marker::{Model, PhantomData};
 use std::sync::Wait;
-use threads_senders::Run;
+use threads_ports::Run;
 
 /// The port of an instance, which gathers its senders by ascending places. `at` is its place among the owners, `number`
 /// its number, `next` the place after the last one that was gathered, and `sent` how many signals the gathered ones have

@@ -6,13 +6,13 @@ ghost use Rattle.settle_rest.specs.Woken.{AreNumbers, AreUpTo};
 
 use crate::waking::wake;
 use port_values::Ticks;
-use sdl_instances::Entries;
 use sdl_script::ScriptLine;
 use sdl_timers::Wheel;
 use serial_sweeps::ReadySet;
 use std::alloc::{AllocError, Global};
 use std::mem;
 use std::sync::{Mutex, Wait};
+use threads_ports::Entries;
 
 /// How many numbers there are.
 const MOST_NUMBERS: u32 = 1_000;

@@ -7,9 +7,8 @@ use sdl_script::ScriptLine;
 use serial_sweeps::{Agenda, InstanceSet, Made};
 use std::alloc::Global;
 use std::sync::Wait;
-use threads_environment::Environment;
-use threads_senders::Run;
-use threads_shared::{Own, Shared};
+use threads_ports::Run;
+use threads_shared::{Environment, Own, Shared};
 
 /// The instances of a run on threads, each in its place, once the threads are joined: what they shared, what the calling
 /// thread has for itself, the environment, and the greatest number that was given.

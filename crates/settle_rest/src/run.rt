@@ -10,9 +10,8 @@ use port_values::Ticks;
 use run_record::RunError;
 use serial_sweeps::{Agenda, Scheduler};
 use std::sync::Wait;
-use threads_environment::Environment;
-use threads_senders::Run;
-use threads_shared::{Own, Shared};
+use threads_ports::Run;
+use threads_shared::{Environment, Own, Shared};
 
 /// Goes on with a run on one thread, from the time `from` on: the instances step in sweeps by ascending number, and the
 /// clock moves only if all rest, until all rest, the script is at its end and no timer is due by then, or until `left`

@@ -15,7 +15,7 @@ use sdl_interp::Stepped;
 use serial_sweeps::{Agenda, Made};
 use std::alloc::AllocError;
 use std::sync::Wait;
-use threads_senders::Run;
+use threads_ports::Run;
 use threads_shared::{Own, Seated, Shared, StepRuntime, note_stepped};
 
 impl<'w, 'l, 's, 'p, 'e, J: Run, R: Wait + Copy> Rest<'w, 'l, 's, 'p, 'e, J, R> {

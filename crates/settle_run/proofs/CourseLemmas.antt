@@ -19,7 +19,7 @@ use Rattle.settle_closing.specs.Left.{ClosingState}
 use Rattle.settle_gathering.specs.Gathering.{CountedState}
 use Rattle.settle_run.specs.Course.{ArePuts, AreRowsOf, HasDrawnOf, HasPuts, HasPutsInto, HasPutsOf, HasRows, HasVersionsOf, rows_of}
 use Rattle.settle_run.specs.Parts.{AreColumnsOf, logs_of, owner_at, peers_of, records_of}
-use Rattle.threads_senders.specs.Peers.{PeersState, senders_into}
+use Rattle.threads_ports.specs.Peers.{PeersState, senders_into}
 
 -- ---- lists
 

@@ -20,7 +20,7 @@ use Rattle.settle_run.specs.Gifts.{children_at, given_at}
 use Rattle.settle_run.specs.Parts.{AreColumnsOf, AreParts, AreThensOf, logs_of, owner_at, owners_in, owners_of, peers_of, records_of}
 use Rattle.threads_instance.specs.declared.doings.Child.{Child}
 use Rattle.threads_instance.specs.declared.doings.Gifts.{Gifts}
-use Rattle.threads_senders.specs.Peers.{PeersState, put_to}
+use Rattle.threads_ports.specs.Peers.{PeersState, put_to}
 
 -- two answers that a test finds to be the same
 pub same_flags : (x y : Bool) → not (beq x y) ≡ false → x ≡ y

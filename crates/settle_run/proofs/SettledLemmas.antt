@@ -30,9 +30,9 @@ use Rattle.settle_meaning.specs.Times.{AreRisingFrom}
 use Rattle.settle_run.proofs.GiftLemmas.{are_given}
 use Rattle.settle_run.specs.Gifts.{AreAllGiven, children_at, given_at}
 use Rattle.settle_run.specs.Parts.{AreParts, AreSettledPorts, IsSettledPort, owner_at}
-use Rattle.threads_environment.specs.Environment.{IsHeardBy}
+use Rattle.threads_shared.specs.Environment.{IsHeardBy}
 use Rattle.threads_instance.specs.declared.doings.Gifts.{Gifts}
-use Rattle.threads_senders.specs.Peers.{ArePeers, PeersState}
+use Rattle.threads_ports.specs.Peers.{ArePeers, PeersState}
 
 module _ (closed_have_histories : ClosedHaveHistories) (closed_have_put : ClosedHavePut)
     (counted_have_put : CountedHavePut) (named : Option SystemValue) (ports : ℕ → SegId Global)

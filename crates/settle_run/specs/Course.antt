@@ -13,7 +13,7 @@ use Rattle.settle_account.specs.Account.{AllAt, put_at}
 use Rattle.settle_closing.specs.Left.{ClosingState}
 use Rattle.settle_gathering.specs.Gathering.{CountedState, IsCounted}
 use Rattle.settle_run.specs.Parts.{logs_of, peers_of}
-use Rattle.threads_senders.specs.Peers.{PeersState, senders_into}
+use Rattle.threads_ports.specs.Peers.{PeersState, senders_into}
 
 -- ---- who put what was drawn
 

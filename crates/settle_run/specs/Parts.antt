@@ -18,7 +18,7 @@ use Rattle.settle_closing.specs.declared.ending.PortThen.{PortThen}
 use Rattle.settle_gathering.specs.Gathering.{IsCounted}
 use Rattle.settle_run.specs.Gifts.{children_at, given_at}
 use Rattle.threads_instance.specs.declared.doings.Gifts.{Gifts}
-use Rattle.threads_senders.specs.Peers.{PeersState}
+use Rattle.threads_ports.specs.Peers.{PeersState}
 
 -- the owner of a port, by its place among the records
 abbrev pub owner_at : List HeldState → ℕ → OwnerState

@@ -3,13 +3,13 @@
 ghost use Rattle.std.specs.Prelude.{◌≡◌, IfOk, IfSome, IsTrue, None, Some, false, map};
 ghost use Rattle.std.specs.List.{AllZip};
 ghost use Rattle.settle_run.specs.Course.{HasDrawnOf, HasPutsOf, HasVersionsOf, rows_of};
-ghost use Rattle.threads_senders.specs.Peers.{senders_into};
+ghost use Rattle.threads_ports.specs.Peers.{senders_into};
 
 use run_course::{Course, CourseLog, SenderInto};
 use settle_gathering::{Counted, Fixed};
 use std::alloc::{AllocError, Global};
 use std::sync::Wait;
-use threads_senders::{Peers, Run};
+use threads_ports::{Peers, Run};
 use threads_shared::Shared;
 
 /// The senders of all places, where the course of the run is kept; else none. Refused for lack of memory.

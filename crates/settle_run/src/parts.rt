@@ -10,7 +10,7 @@ use settle_closing::{Closing, PortThen};
 use std::alloc::Global;
 use std::sync::Wait;
 use threads_instance::{Gifts, Left};
-use threads_senders::{Peers, Run};
+use threads_ports::{Peers, Run};
 
 /// The parts of a run that are left: the records, what the instance of each was given and gave, what is kept of its course,
 /// and their ports.

@@ -15,7 +15,7 @@ use settle_account::counts_of;
 use settle_closing::{PortThen, ends_as};
 use settle_gathering::{Counted, Fixed};
 use std::sync::Wait;
-use threads_senders::Run;
+use threads_ports::Run;
 use threads_shared::Shared;
 
 /// Counts the ports of all records, and looks whether the records close as the run ends. Answers who put what was drawn

@@ -19,9 +19,8 @@ use settle_summing::some_memory;
 use std::marker::Brand;
 use std::sync::Wait;
 use std::thread::Threads;
-use threads_environment::Environment;
-use threads_senders::Run;
-use threads_shared::Shared;
+use threads_ports::Run;
+use threads_shared::{Environment, Shared};
 
 /// A run whose records are closed, in the order of their numbers. Its report is settled: what the records say fits, and
 /// for all behaviours that the processes of the system mean it is whole or cut, and nothing was lost between threads.

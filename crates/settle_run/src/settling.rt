@@ -13,9 +13,8 @@ use settle_closing::{Closing, close};
 use settle_rest::run_rest;
 use std::sync::Wait;
 use std::thread::Threads;
-use threads_environment::Environment;
-use threads_senders::Run;
-use threads_shared::{Own, Seated, Shared};
+use threads_ports::Run;
+use threads_shared::{Environment, Own, Seated, Shared};
 
 /// How many numbers there are.
 const MOST_NUMBERS: u32 = 1_000;

@@ -1,7 +1,7 @@
 //! What the two instances of a small run on threads see of it.
 
 ghost use Rattle.std.specs.Prelude.{◌≡◌, ℕ, false, nat_eq, nat_lt, vec_capacity, vec_len, [], IfOk};
-ghost use Rattle.threads_senders.specs.Peers.{put_by};
+ghost use Rattle.threads_ports.specs.Peers.{put_by};
 
 use input_port::{Desk, Port, Sender};
 use port_inbox::Fuse;
@@ -10,7 +10,7 @@ use sdl_system::{Dest, ProcessId, Source, System, Target};
 use std::alloc::AllocError;
 use std::marker::PhantomData;
 use threads_instance::Runtime;
-use threads_senders::Run;
+use threads_ports::Run;
 
 /// The number of the instance that is there from the start, of the first process.
 pub const FIRST: u32 = 3;

@@ -20,7 +20,7 @@ use std::marker::{Brand, PhantomData};
 use std::process::Abort;
 use std::sync::Wait;
 use threads_instance::{Left, ThreadInstance};
-use threads_senders::Run;
+use threads_ports::Run;
 
 const TEXT: &str = "system S; signal a, v(Integer), who(Pid);
     process P; timer T, U; dcl n Integer, p Pid; start; output a to Q; create Q; output v(2) to Q; output v(3) to self;

@@ -3,10 +3,10 @@
 ghost use Rattle.std.specs.Prelude.{◌≡◌, ◌<◌, ◌≤◌};
 
 use port_values::Pid;
-use sdl_instances::{Entered, Entries};
 use sdl_system::ProcessId;
 use std::thread;
 use std::thread::Threads;
+use threads_ports::{Entered, Entries};
 
 fn entered(pid: u32, process: u32) -> Entered
     ensures { result.pid ≡ pid }

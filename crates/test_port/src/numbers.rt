@@ -3,12 +3,12 @@
 ghost use Rattle.std.specs.Prelude.{◌≡◌};
 ghost use Rattle.std.specs.Thread.{IsSync};
 
-use sdl_instances::birth::table;
-use sdl_instances::{Full, Seat, Table};
 use std::alloc::Global;
 use std::process::Abort;
 use std::thread;
 use std::thread::Threads;
+use threads_ports::instances::birth::table;
+use threads_ports::{Full, Seat, Table};
 
 /// A seat that was in a thread, and the numbers that it drew there, in their order.
 #[derive(Drop)]

@@ -1,9 +1,10 @@
 //! Senders alone.
 
 ghost use Rattle.std.specs.Prelude.{◌≡◌, [], true};
-ghost use Rattle.threads_senders.specs.Peers.{is_known};
+ghost use Rattle.threads_ports.specs.Peers.{is_known};
 
-use crate::calls::{self, key, with_sender};
+use crate::calls;
+use crate::calls::{key, with_sender};
 use crate::peer_ends::{expect_drawn, item};
 use input_port::{Owner, Port, Sender};
 use port_inbox::Fuse;
@@ -12,7 +13,7 @@ use std::alloc::Global;
 use std::marker::Brand;
 use std::process::Abort;
 use std::sync::Wait;
-use threads_senders::{NotPut, Peers, Run};
+use threads_ports::{NotPut, Peers, Run};
 
 #[test]
 fn puts_to_another(rt: HostRuntime) {

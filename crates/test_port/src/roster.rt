@@ -1,10 +1,10 @@
 //! Who lives in a system of two processes, of which the first may have two instances and the second any number.
 
 use indexmap::IndexMap;
-use sdl_instances::Roster;
 use sdl_system::{NodeId, Process, ProcessId, Routes, SignalSet, System};
 use std::alloc::Global;
 use std::process::Abort;
+use threads_ports::Roster;
 
 const PAIR: ProcessId = ProcessId(0);
 

@@ -6,7 +6,7 @@ use Rattle.sdl_script.specs.Script.{IsFromEnv, IsScript, SendsFromEnv}
 use Rattle.sdl_script.specs.declared.script.ScriptLine.{ScriptLine}
 use Rattle.sdl_script.specs.declared.script.ScriptSignal.{ScriptSignal}
 use Rattle.sdl_system.specs.System.{SystemValue}
-use Rattle.threads_environment.specs.Environment.{IsOfEnv}
+use Rattle.threads_shared.specs.Environment.{IsOfEnv}
 
 signal_of_env : (system : SystemValue) (signal : Option ScriptSignal) → IfSome signal (IsFromEnv system)
     → IfSome signal (λ (s : ScriptSignal). s.item.sender ≡ Env)

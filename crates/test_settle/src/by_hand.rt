@@ -10,9 +10,8 @@ use settle_run::{Ending, Settled, report_of};
 use std::alloc::AllocError;
 use std::sync::Wait;
 use std::thread::Threads;
-use threads_environment::Environment;
-use threads_senders::Run;
-use threads_shared::{Own, Shared, StepRuntime};
+use threads_ports::Run;
+use threads_shared::{Environment, Own, Shared, StepRuntime};
 
 /// The greatest number of an instance in a test.
 const MOST_INSTANCES: u32 = 20;

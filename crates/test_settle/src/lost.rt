@@ -1,7 +1,7 @@
 //! Runs of which something is lost before they are settled.
 
 ghost use Rattle.std.specs.Prelude.{All};
-ghost use Rattle.threads_environment.specs.Environment.{IsOfEnv};
+ghost use Rattle.threads_shared.specs.Environment.{IsOfEnv};
 
 use crate::given::{Given, make_given, text_of};
 use crate::runs::{Plan, Way, settle_named};

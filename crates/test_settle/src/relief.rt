@@ -4,7 +4,7 @@ use std::alloc::Global;
 use std::collections::VecDeque;
 use std::process::Abort;
 use std::sync::Wait;
-use threads_queue::{Hall, LocalQueue, Places, Turn, put};
+use threads_instance::{Hall, LocalQueue, Places, Turn, put};
 
 /// Whose tickets one queue has.
 static NUMBERS: [u32; 3] = [5, 7, 6];

@@ -1,7 +1,7 @@
 //! A run that is settled from its start on: all of its transitions are made by `run_rest`.
 
 ghost use Rattle.std.specs.Prelude.{All};
-ghost use Rattle.threads_environment.specs.Environment.{IsOfEnv};
+ghost use Rattle.threads_shared.specs.Environment.{IsOfEnv};
 
 use crate::cases::{CASES, Case};
 use crate::given::{Given, make_given, serial_text, text_of};

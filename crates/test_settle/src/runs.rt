@@ -1,14 +1,13 @@
 //! Runs that no worker has: they are begun, and settled.
 
 ghost use Rattle.std.specs.Prelude.{◌≡◌, All, Some, vec_len};
-ghost use Rattle.threads_environment.specs.Environment.{IsOfEnv};
+ghost use Rattle.threads_shared.specs.Environment.{IsOfEnv};
 ghost use Rattle.threads_ports.specs.Named.{AreMade, AreNamed};
 
 use crate::by_hand::{Made, by_hand};
 use crate::given::Given;
 use port_values::Ticks;
 use run_record::{Report, RunError};
-use sdl_instances::{Entries, Seat, Table, birth};
 use sdl_timers::clock;
 use settle_closing::laws::left_without_peers;
 use settle_closing::{Closing, close};
@@ -18,13 +17,13 @@ use std::alloc::Global;
 use std::marker::Brand;
 use std::sync::Wait;
 use std::thread::Threads;
-use threads_crew::begin;
-use threads_environment::Environment;
-use threads_instance::Left;
-use threads_ports::{NewPorts, NumberSeat, Numbers, Ports, birth as ports};
-use threads_queue::Places;
-use threads_senders::{Peers, Run};
-use threads_shared::{Common, Own, Shared, Tables};
+use threads_instance::{Left, Places};
+use threads_ports::instances::birth;
+use threads_ports::{
+    Entries, NewPorts, NumberSeat, Numbers, Peers, Ports, Run, Seat, Table, birth as ports,
+};
+use threads_shared::{Common, Environment, Own, Shared, Tables};
+use threads_workers::begin;
 
 /// The greatest number of an instance in a test.
 const MOST_INSTANCES: u32 = 20;

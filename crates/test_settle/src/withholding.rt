@@ -7,7 +7,7 @@ use sdl_system::{Dest, ProcessId, System, Target};
 use std::alloc::AllocError;
 use std::sync::Wait;
 use threads_instance::Runtime;
-use threads_senders::Run;
+use threads_ports::Run;
 use threads_shared::StepRuntime;
 
 /// The run, as an instance sees it in a step, except that whom it creates gets no values.

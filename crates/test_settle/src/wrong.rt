@@ -2,7 +2,7 @@
 //! they break what a report has to be. Beside each is a right run of the same system on the same script.
 
 ghost use Rattle.std.specs.Prelude.{All};
-ghost use Rattle.threads_environment.specs.Environment.{IsOfEnv};
+ghost use Rattle.threads_shared.specs.Environment.{IsOfEnv};
 
 use crate::by_hand::{Act, Made};
 use crate::given::{Given, make_given};

@@ -7,9 +7,9 @@ use Rattle.port_values.specs.declared.pid.Pid.TheVariants.{Of}
 use Rattle.sdl_interp.specs.Instance.{InstanceValue, IsClosed, IsRunAs, closing}
 use Rattle.threads_instance.specs.Outbox.{AreEnds}
 use Rattle.threads_instance.specs.ThreadInstance.{HasPut, HasSent}
-use Rattle.threads_senders.proofs.Kept.{last_none, last_of_same}
-use Rattle.threads_senders.specs.Peers.{AreLast, ArePeersOf, PeersState, put_to}
-use Rattle.threads_senders.specs.Rows.{EndsWith}
+use Rattle.threads_ports.proofs.SendersKept.{last_none, last_of_same}
+use Rattle.threads_ports.specs.Peers.{AreLast, ArePeersOf, PeersState, put_to}
+use Rattle.threads_ports.specs.Rows.{EndsWith}
 use Rattle.run_record.specs.Event as event
 use Rattle.run_record.specs.Event.{Event}
 use Rattle.run_record.specs.Record.{RecordValue}

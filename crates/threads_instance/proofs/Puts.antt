@@ -10,9 +10,9 @@ use Rattle.port_queue.specs.Ends.{SenderState}
 use Rattle.port_values.specs.declared.item.Item.{Item}
 use Rattle.port_model.specs.declared.refused.Refused.{Refused}
 use Rattle.threads_instance.specs.Outbox.{AreEnds, Arms, OutboxState, sent_in}
-use Rattle.threads_senders.proofs.SenderLemmas.{put_in, put_to-puts, sender_to-unknown}
-use Rattle.threads_senders.specs.Peers.{PeersState, PutsTo, is_known, put_by, put_to, sender_to}
-use Rattle.threads_senders.specs.Rows.{EndsWith}
+use Rattle.threads_ports.proofs.SenderLemmas.{put_in, put_to-puts, sender_to-unknown}
+use Rattle.threads_ports.specs.Peers.{PeersState, PutsTo, is_known, put_by, put_to, sender_to}
+use Rattle.threads_ports.specs.Rows.{EndsWith}
 use Rattle.run_semantics.specs.World.{has_port, sent_on}
 
 -- ---- a sender that has put nothing

@@ -5,8 +5,8 @@ use Rattle.port_inbox.specs.declared.entry.Entry.TheVariants.{Timer}
 use Rattle.port_inbox.specs.declared.entry.Fuse.{Fuse}
 use Rattle.port_values.specs.declared.item.Item.{Item}
 use Rattle.run_semantics.specs.World.{Sent}
-use Rattle.threads_senders.specs.Peers.{PeersState, PutsTo, put_to}
-use Rattle.threads_senders.specs.Rows.{EndsWith}
+use Rattle.threads_ports.specs.Peers.{PeersState, PutsTo, put_to}
+use Rattle.threads_ports.specs.Rows.{EndsWith}
 
 -- What a caller sees of it: the senders, and all signals that were sent to instances that have a port, in their order,
 -- each after the number of its target.

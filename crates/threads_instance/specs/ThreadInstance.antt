@@ -8,7 +8,7 @@ use Rattle.run_course.specs.declared.course_log.CourseLog.{CourseLog}
 use Rattle.sdl_interp.specs.Instance.{InstanceValue, IsRunAs}
 use Rattle.sdl_system.specs.System.{SystemValue}
 use Rattle.threads_instance.specs.Outbox.{sent_in}
-use Rattle.threads_senders.specs.Peers.{ArePeersOf, PeersState}
+use Rattle.threads_ports.specs.Peers.{ArePeersOf, PeersState}
 use Rattle.threads_instance.specs.declared.doings.Child.{Child}
 use Rattle.run_semantics.specs.ControlPoint.{Definition}
 use Rattle.run_semantics.specs.Effect.{Effect}

@@ -10,6 +10,7 @@
 mod doings;
 mod effect_list;
 mod outbox;
+mod queue;
 mod resting;
 mod runtime;
 mod sent;
@@ -17,5 +18,6 @@ mod thread_instance;
 mod thread_world;
 
 pub use doings::{Child, Gifts};
+pub use queue::{Hall, LocalQueue, MOST_TAKEN, Place, Places, Refused, Ticket, Turn, put};
 pub use runtime::Runtime;
 pub use thread_instance::{Left, ThreadInstance};

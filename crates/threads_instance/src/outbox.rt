@@ -3,7 +3,7 @@
 ghost use Rattle.std.specs.Prelude.{◌≡◌, ◌≤◌, ◌++◌, ◌∷◌, [], ℕ, false, true, IfErr, MatchResult, OnOk};
 ghost use Rattle.port_inbox.specs.declared.entry.Entry.TheVariants.{Timer};
 ghost use Rattle.threads_instance.specs.Outbox.{AreEnds};
-ghost use Rattle.threads_senders.specs.Peers.{is_known, put_by, GivesBack, PutsTo};
+ghost use Rattle.threads_ports.specs.Peers.{is_known, put_by, GivesBack, PutsTo};
 
 use crate::sent::SentList;
 use input_port::{Port, Sender};
@@ -12,7 +12,7 @@ use port_values::{Item, Ticks};
 use std::alloc::{AllocError, Global};
 use std::marker::Model;
 use std::sync::Wait;
-use threads_senders::{NotPut, Peers, Run};
+use threads_ports::{NotPut, Peers, Run};
 
 /// The senders of an instance, and what it has sent. `sent` is for proofs alone and takes no memory: so that a contract
 /// can say what was put, and what was sent before there was a sender.

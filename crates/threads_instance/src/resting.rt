@@ -1,9 +1,9 @@
 //! What the mark of its place asks of an instance.
 
+use crate::queue::Rests;
 use crate::thread_instance::ThreadInstance;
 use port_inbox::Inbox;
-use threads_queue::Rests;
-use threads_senders::Run;
+use threads_ports::Run;
 
 impl<'s, J: Run, P: Inbox + Drop> Rests for ThreadInstance<'s, J, P> {
     ghost use Rattle.std.specs.Prelude.{◌≡◌};

@@ -2,7 +2,7 @@
 
 ghost use Rattle.std.specs.Prelude.{◌≡◌, ◌++◌, ◌∷◌, [], true, Bool, List, IfOk, IfSome, None, OnOk, is_some};
 ghost use Rattle.port_inbox.specs.declared.entry.Fuse.{Fuse};
-ghost use Rattle.threads_senders.specs.Peers.{put_by};
+ghost use Rattle.threads_ports.specs.Peers.{put_by};
 ghost use Rattle.run_semantics.specs.World.{IsRouteBy, has_port};
 
 use input_port::{Port, Sender};
@@ -10,7 +10,7 @@ use port_inbox::Fuse;
 use port_values::{SignalId, Values};
 use sdl_system::{Dest, ProcessId, System, Target};
 use std::alloc::AllocError;
-use threads_senders::Run;
+use threads_ports::Run;
 
 /// A run on threads, as one of its instances sees it in a step.
 pub trait Runtime<J: Run> {

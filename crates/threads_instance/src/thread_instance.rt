@@ -8,7 +8,7 @@ ghost use Rattle.threads_instance.specs.Doings.{children_of};
 ghost use Rattle.threads_instance.specs.RunBy.{HasRunBy};
 ghost use Rattle.threads_instance.specs.ThreadWorld.{world_of};
 ghost use Rattle.threads_instance.specs.ThreadInstance.{HasPut, HasSent, IsSeated};
-ghost use Rattle.threads_senders.specs.Peers.{ArePeersOf};
+ghost use Rattle.threads_ports.specs.Peers.{ArePeersOf};
 ghost use Rattle.run_semantics.specs.ControlPoint.{Definition};
 
 use crate::doings::{Doings, Gifts};
@@ -27,7 +27,7 @@ use std::alloc::Global;
 use std::marker::Model;
 use std::mem;
 use std::sync::Wait;
-use threads_senders::{Peers, Run};
+use threads_ports::{Peers, Run};
 
 /// An instance of a process in a run on threads, with its senders, in its seat: of the run's system, and with the port
 /// of its number. What was put into each port is the end of what its record sends there. It began with the values that

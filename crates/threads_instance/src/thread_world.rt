@@ -4,7 +4,7 @@ ghost use Rattle.std.specs.Prelude.{◌≡◌, ◌≤◌, ℕ, false, true, Matc
 ghost use Rattle.port_inbox.specs.declared.entry.Entry.TheVariants.{Timer};
 ghost use Rattle.threads_instance.specs.Outbox.{sent_in, Arms};
 ghost use Rattle.threads_instance.specs.ThreadWorld.{world_of};
-ghost use Rattle.threads_senders.specs.Peers.{is_known, PutsTo};
+ghost use Rattle.threads_ports.specs.Peers.{is_known, PutsTo};
 ghost use Rattle.run_semantics.specs.World.{has_port, sent_on};
 
 use crate::doings::Doings;
@@ -16,7 +16,7 @@ use run_semantics::World;
 use sdl_system::{Dest, ProcessId, System, Target};
 use std::alloc::AllocError;
 use std::sync::Wait;
-use threads_senders::{NotPut, Run};
+use threads_ports::{NotPut, Run};
 
 /// The run, what the instance sends with, and what it has done. Its number is `own`, and `time` the time of the step, for
 /// which the clock was read once. A signal is put at once.

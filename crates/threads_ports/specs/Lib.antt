@@ -1,4 +1,17 @@
 pub mod Desks
+pub mod Ends
+pub mod Instances
 pub mod Named
+pub mod NumberSets
+pub mod Numbers
 pub mod Owners
+pub mod Peers
+pub mod Roster
+pub mod Rows
+pub mod Rule
+pub mod Run
+pub mod SenderLaws
 pub mod Site
+pub mod Steps
+pub mod Views
+pub mod Words

@@ -4,12 +4,12 @@ ghost use Rattle.std.specs.Prelude.{◌≡◌, ◌+◌, ◌<◌, ◌≤◌, [], 
 ghost use Rattle.run_semantics.specs.World.{has_port};
 ghost use Rattle.threads_ports.specs.Desks.{given_of, with_one_more};
 ghost use Rattle.threads_ports.specs.Named.{HaveDesks};
-ghost use Rattle.threads_senders.specs.Peers.{put_by};
+ghost use Rattle.threads_ports.specs.Peers.{put_by};
 
+use crate::senders::Run;
 use input_port::{Desk, Port, Sender};
 use port_model::PortError;
 use std::marker::{Model, PhantomData};
-use threads_senders::Run;
 
 /// For each number the desk of its port, which gives out its senders.
 #[derive(Drop)]

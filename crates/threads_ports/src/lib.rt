@@ -10,12 +10,16 @@
 
 pub mod birth;
 mod desks;
+pub mod instances;
 pub mod laws;
 mod numbers;
 mod owners;
 mod ports;
+mod senders;
 mod site;
 
 pub use birth::NewPorts;
+pub use instances::{Entered, Entries, Full, Roster, Seat, Table};
 pub use numbers::{NumberSeat, Numbers};
 pub use ports::Ports;
+pub use senders::{NotPut, Peer, Peers, Run};

@@ -1,11 +1,11 @@
 //! The numbers of a run, and what a thread draws them with.
 
 ghost use Rattle.std.specs.Prelude.{◌≡◌, ◌+◌, ◌<◌, ◌≤◌, [], ◌∷◌, ◌++◌, IfSome, MatchOption};
-ghost use Rattle.sdl_instances.specs.Numbers.{times, AreOneTo, EachOnce};
+ghost use Rattle.threads_ports.specs.Numbers.{times, AreOneTo, EachOnce};
 
-use sdl_instances::{Seat, Table};
+use crate::instances::{Seat, Table};
+use crate::senders::Run;
 use std::marker::{Model, PhantomData};
-use threads_senders::Run;
 
 /// The table of the run `J`, from which all threads draw the numbers of its instances, each number once.
 #[derive(Drop)]
@@ -36,7 +36,7 @@ pub struct NumberSeat<J: Run> {
 
 impl<J: Run> Model for NumberSeat<J> {
     ghost use Rattle.std.specs.Prelude.{◌≡◌};
-    ghost use Rattle.sdl_instances.specs.Ends.{SeatState};
+    ghost use Rattle.threads_ports.specs.Ends.{SeatState};
 
     ghost Value = { SeatState };
 

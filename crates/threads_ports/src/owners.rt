@@ -6,9 +6,9 @@ ghost use Rattle.run_semantics.specs.World.{has_port};
 ghost use Rattle.threads_ports.specs.Named.{HaveOwners};
 ghost use Rattle.threads_ports.specs.Owners.{owner_of, without_owner};
 
+use crate::senders::Run;
 use input_port::Owner;
 use std::marker::{Model, PhantomData};
-use threads_senders::Run;
 
 /// For each number the owner of its port, until it is given out.
 #[derive(Drop)]

@@ -4,16 +4,16 @@ ghost use Rattle.std.specs.Prelude.{◌≡◌, [], IfOk, IfSome, is_some, true, 
 ghost use Rattle.port_queue.specs.Ends.{newborn};
 ghost use Rattle.run_semantics.specs.World.{has_port};
 ghost use Rattle.threads_ports.specs.Named.{AreMade, AreNamed};
-ghost use Rattle.threads_senders.specs.Peers.{put_by};
+ghost use Rattle.threads_ports.specs.Peers.{put_by};
 
 use crate::birth::NewPorts;
 use crate::desks::Desks;
 use crate::owners::Owners;
+use crate::senders::Run;
 use input_port::{Owner, Port, Sender};
 use port_model::PortError;
 use std::marker::PhantomData;
 use std::sync::{Mutex, Wait};
-use threads_senders::Run;
 
 /// The ports of the run `J`, one for each of the numbers 1 to 1,000. All threads share them by `&`. A put and a take
 /// need no lock; who asks for a sender or for an owner takes one for a moment.

@@ -1,8 +1,8 @@
 -- What a create that comes to nothing has drawn, and who lives after one.
 use Rattle.std.proofs.Common.{◌≡◌, ◌∙◌, ap, inl, inr, ℕ, Bool, true, List, [], ◌∷◌, ◌++◌}
 use Rattle.std.specs.Prelude.{if◌then◌else◌}
-use Rattle.sdl_instances.specs.Instances.{with_one, with_reservation}
-use Rattle.sdl_instances.specs.Roster.{RosterValue, can_live_in, reserved_in, turned_in}
+use Rattle.threads_ports.specs.Instances.{with_one, with_reservation}
+use Rattle.threads_ports.specs.Roster.{RosterValue, can_live_in, reserved_in, turned_in}
 use Rattle.sdl_system.specs.declared.id.ProcessId.{ProcessId}
 use Rattle.threads_shared.specs.Making.{IsSpent, LivesSince, reserved_for}
 

@@ -1,2 +1,4 @@
 pub mod CreateLemmas
+pub mod HeardLines
 pub mod NotingLemmas
+pub mod Sent

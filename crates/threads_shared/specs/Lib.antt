@@ -1,4 +1,6 @@
+pub mod Environment
 pub mod Lookout
 pub mod Making
 pub mod Noting
+pub mod Sending
 pub mod Signs

@@ -1,7 +1,7 @@
 -- What a create does to the numbers that a thread has drawn, and to who lives (Z.102: create).
 use Rattle.std.specs.Prelude.{◌≡◌, ◌<◌, ◌≤◌, ◌⊎◌, ℕ, List, [], ◌∷◌, ◌++◌, true}
-use Rattle.sdl_instances.specs.Instances.{with_one, with_reservation}
-use Rattle.sdl_instances.specs.Roster.{RosterValue, can_live_in, reserved_in, turned_in}
+use Rattle.threads_ports.specs.Instances.{with_one, with_reservation}
+use Rattle.threads_ports.specs.Roster.{RosterValue, can_live_in, reserved_in, turned_in}
 use Rattle.sdl_system.specs.declared.id.ProcessId.{ProcessId}
 
 -- this number was drawn, and no other

@@ -1,8 +1,6 @@
 //! What lasts as long as a run.
 
-use sdl_instances::Entries;
-use threads_ports::{Numbers, Ports};
-use threads_senders::Run;
+use threads_ports::{Entries, Numbers, Ports, Run};
 
 /// The things that last as long as the run `J`: its ports, its numbers, and the entry of each. All threads share them.
 #[derive(Drop)]

@@ -1,3 +1,11 @@
+//! The environment of a run on threads: the script's signals, and the senders that put them and what expires (Z.101:
+//! environment, input port; Z.102: input, timer).
+//!
+//! An `Environment` hears the lines of its script, one by one, and notes where the signal of each went. Its type says that
+//! what was put into each port is the end of what went to that instance: a signal to an instance into whose port there is
+//! no sender, and that is not entered, is gone, and nothing was put there before. When a line is heard is for the caller
+//! to say, and so is who is woken then.
+//!
 //! What the threads of a run share, and what an instance's step asks of it (Z.101: system, create).
 //!
 //! `Common` is what lasts as long as the run: ports, numbers, entries. `Tables` are the roster, the wheel, the hall, the
@@ -15,10 +23,13 @@
 
 mod addressees;
 mod common;
+mod environment;
+mod hearing;
 mod lookout;
 pub mod making;
 mod noting;
 mod own;
+mod sending;
 mod shared;
 mod signs;
 mod step_runtime;
@@ -26,6 +37,7 @@ mod tables;
 
 pub use addressees::Addressees;
 pub use common::Common;
+pub use environment::Environment;
 pub use lookout::Lookout;
 pub use noting::note_stepped;
 pub use own::Own;

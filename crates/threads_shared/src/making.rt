@@ -1,22 +1,19 @@
 //! How an instance is made (Z.102: create).
 
 ghost use Rattle.std.specs.Prelude.{◌≡◌, ◌<◌, ◌≤◌, [], IfNone, IfOk, IfSome, None, OnErr, Some};
-ghost use Rattle.sdl_instances.specs.Instances.{without_reservation};
-ghost use Rattle.sdl_instances.specs.Roster.{reserved_in};
+ghost use Rattle.threads_ports.specs.Instances.{without_reservation};
+ghost use Rattle.threads_ports.specs.Roster.{reserved_in};
 ghost use Rattle.threads_shared.specs.Making.{IsMade, IsSpent, LivesSince};
 
 use crate::shared::{Seated, Shared};
 use input_port::{Held, Owner, Port};
 use port_values::{Pid, Values};
 use run_evaluation::Identity;
-use sdl_instances::{Entered, Roster};
 use sdl_system::ProcessId;
 use std::alloc::AllocError;
 use std::sync::Wait;
-use threads_instance::ThreadInstance;
-use threads_ports::NumberSeat;
-use threads_queue::Ticket;
-use threads_senders::Run;
+use threads_instance::{ThreadInstance, Ticket};
+use threads_ports::{Entered, NumberSeat, Roster, Run};
 
 /// What a create gives: the ticket of the instance, or None; and the version of the roster in which it lives, or in
 /// which there was no room for it. It can't be let go, since a ticket can't.

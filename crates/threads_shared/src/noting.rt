@@ -7,7 +7,7 @@ use crate::own::Own;
 use crate::shared::{Seated, Shared};
 use sdl_interp::Stepped;
 use std::sync::Wait;
-use threads_senders::Run;
+use threads_ports::Run;
 
 /// What comes of a step for the run: who has ended lives no more; and where the course of the run is kept, a step that
 /// is recorded is noted in the course of its instance: how many entries are drawn from its port by then, and which

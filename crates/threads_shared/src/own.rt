@@ -2,7 +2,7 @@
 
 ghost use Rattle.std.specs.Prelude.{◌≡◌, [], IfOk, OnOk, Some, if◌then◌else◌, length, replicate, true};
 ghost use Rattle.run_course.specs.KeptWords.{Notes};
-ghost use Rattle.sdl_instances.specs.Roster.{least_living};
+ghost use Rattle.threads_ports.specs.Roster.{least_living};
 ghost use Rattle.threads_shared.specs.Noting.{NotesLookUp};
 
 use crate::addressees::Addressees;
@@ -12,15 +12,13 @@ use crate::tables::Tables;
 use port_inbox::Fuse;
 use port_values::Ticks;
 use run_course::KeptWords;
-use sdl_instances::Roster;
 use sdl_system::Dest;
 use sdl_timers::Reader;
 use std::alloc::{AllocError, Global};
 use std::collections::VecDeque;
 use std::sync::Wait;
-use threads_ports::NumberSeat;
-use threads_queue::Ticket;
-use threads_senders::Run;
+use threads_instance::Ticket;
+use threads_ports::{NumberSeat, Roster, Run};
 
 /// How many numbers a thread has room for in hand from the start: each number is in hand once at most.
 const MOST_IN_HAND: usize = 1_000;

@@ -12,9 +12,8 @@ use sdl_system::System;
 use std::alloc::{AllocError, Global};
 use std::collections::VecDeque;
 use std::sync::Wait;
-use threads_instance::ThreadInstance;
-use threads_queue::{Places, Ticket, put};
-use threads_senders::Run;
+use threads_instance::{Places, ThreadInstance, Ticket, put};
+use threads_ports::Run;
 
 /// An instance in its place.
 pub type Seated<'s, 'p, J, R> = Box<ThreadInstance<'s, J, Held<'p, R>>>;

@@ -4,10 +4,10 @@ ghost use Rattle.std.specs.Prelude.{◌≡◌, ◌≤◌, true};
 ghost use Rattle.threads_shared.specs.Signs.{limit_of, part_of, workers_of};
 
 use crossbeam_utils::CachePadded;
-use sdl_instances::Roster;
 use std::hint::spin_loop;
 use std::sync::atomic::{AtomicBool, AtomicU64, AtomicUsize, Ordering};
-use threads_queue::Hall;
+use threads_instance::Hall;
+use threads_ports::Roster;
 
 /// How many transitions a thread makes at most before it adds them to the sum of all.
 const MOST_MOVES: u64 = 64;

@@ -11,7 +11,7 @@ use sdl_system::{Dest, ProcessId, Source, System, Target};
 use std::alloc::AllocError;
 use std::sync::Wait;
 use threads_instance::Runtime;
-use threads_senders::Run;
+use threads_ports::Run;
 
 /// The run, as an instance sees it in a step that this thread makes.
 #[derive(Drop)]

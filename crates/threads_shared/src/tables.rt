@@ -1,18 +1,18 @@
 //! The tables of a run.
 
-ghost use Rattle.sdl_instances.specs.Instances.{without_one};
-ghost use Rattle.sdl_instances.specs.Roster.{lives_in, turned_in};
+ghost use Rattle.threads_ports.specs.Instances.{without_one};
+ghost use Rattle.threads_ports.specs.Roster.{lives_in, turned_in};
 ghost use Rattle.std.specs.Prelude.{◌≡◌, IfOk, if◌then◌else◌, is_some, nat_lt, vec_len};
 ghost use Rattle.threads_shared.specs.Signs.{limit_of, workers_of};
 
 use crate::signs::Signs;
 use crossbeam_utils::CachePadded;
-use sdl_instances::Roster;
 use sdl_system::{ProcessId, System};
 use sdl_timers::Wheel;
 use std::alloc::{AllocError, Global};
 use std::sync::{Mutex, Wait};
-use threads_queue::{Hall, LocalQueue, Places, Refused, Ticket};
+use threads_instance::{Hall, LocalQueue, Places, Refused, Ticket};
+use threads_ports::Roster;
 
 /// The tables of a run that all threads change: who lives, which fuses wait, who is to step next, and the words. Each
 /// worker has a local queue, by its place in the crew. They can't be let go, since the tickets in the queues can't: their

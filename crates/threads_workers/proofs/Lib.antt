@@ -1,1 +1,2 @@
+mod Crossing
 pub mod Stepping

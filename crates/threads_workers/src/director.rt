@@ -1,7 +1,7 @@
 //! What directs a run: it has the environment hear the script, and moves the clock.
 
 ghost use Rattle.std.specs.Prelude.{◌≡◌, ◌≤◌, IfSome, OnOk};
-ghost use Rattle.threads_environment.specs.Environment.{IsNextAfter};
+ghost use Rattle.threads_shared.specs.Environment.{IsNextAfter};
 
 use crate::waking::Crew;
 use crossbeam_utils::sync::Parker;
@@ -10,9 +10,8 @@ use port_values::Ticks;
 use sdl_timers::Ticker;
 use std::alloc::{AllocError, Global};
 use std::sync::Wait;
-use threads_environment::Environment;
-use threads_senders::Run;
-use threads_shared::Shared;
+use threads_ports::Run;
+use threads_shared::{Environment, Shared};
 
 /// The director of the run `J`, on the calling thread: its environment, the ticker of its clock, and the clock's time.
 #[derive(Drop)]

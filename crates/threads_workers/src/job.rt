@@ -9,8 +9,8 @@ use run_record::{Receivers, Record};
 use sdl_interp::{Ahead, Stepped};
 use std::alloc::AllocError;
 use std::sync::Wait;
-use threads_queue::{LocalQueue, MOST_TAKEN, Ticket};
-use threads_senders::Run;
+use threads_instance::{LocalQueue, MOST_TAKEN, Ticket};
+use threads_ports::Run;
 use threads_shared::{Addressees, Own, Seated, Shared, StepRuntime, note_stepped};
 
 /// How many steps a turn has at most, so that all that have something to do get theirs: the others of a worker's local

@@ -1,3 +1,8 @@
+//! The threads of a run: they are started, work, and are joined (Z.101: system).
+//!
+//! `direct` starts a worker on each of so many threads, has the director direct the run on the calling thread, and
+//! joins all of them. What a thread gets fits the run by its type, so nothing is asked of it here.
+//!
 //! The loops of a run on threads: those of the workers, which make the steps, and that of the director, which has the
 //! environment hear the script and moves the clock (Z.101: system, environment).
 //!
@@ -7,14 +12,16 @@
 //! `Wait`.
 #![tactic(auto)]
 
+mod crew;
 mod director;
 mod gate;
 mod job;
 mod relief;
+mod start;
 mod waking;
 mod worker;
 
+pub use crew::direct;
 pub use director::Director;
 pub use gate::{Gate, Open};
-pub use waking::Crew;
-pub use worker::work;
+pub use start::begin;

@@ -3,7 +3,7 @@
 use crate::waking::Crew;
 use std::alloc::AllocError;
 use std::sync::Wait;
-use threads_senders::Run;
+use threads_ports::Run;
 use threads_shared::{Own, Shared};
 
 /// Looks at the local queues of the crew. What is in that of a worker which hasn't come to it since the last look goes into

@@ -8,9 +8,8 @@ use crossbeam_utils::sync::Parker;
 use sdl_timers::Reader;
 use std::alloc::{AllocError, Global};
 use std::sync::Wait;
-use threads_ports::NumberSeat;
-use threads_queue::{LocalQueue, Turn};
-use threads_senders::Run;
+use threads_instance::{LocalQueue, Turn};
+use threads_ports::{NumberSeat, Run};
 use threads_shared::{Lookout, Own, Shared};
 
 /// Works until the run is over: takes numbers, and makes steps of those instances. `me` is its place in the crew, and it

@@ -3,7 +3,7 @@ use Rattle.std.proofs.Common.{◌<◌, length, rules, subst, sym, []}
 use Rattle.std.proofs.lemmas.List.{get_or_read}
 use Rattle.settle_account.specs.Account.{IsAllHeard}
 use Rattle.settle_checks.specs.Outputs.{AreNamed}
-use Rattle.threads_senders.specs.Peers.{PeersState}
+use Rattle.threads_ports.specs.Peers.{PeersState}
 use Rattle.settle_account.proofs.comparing.compare.Goals as goal
 
 pub all_lived-requires-clause-rising : goal.all_lived-requires-clause-rising

@@ -6,7 +6,7 @@ use Rattle.std.proofs.lemmas.List.{length_push}
 use Rattle.settle_account.proofs.GatherLemmas.{nothing_gathered}
 use Rattle.settle_account.specs.Account.{HavePut}
 use Rattle.settle_account.specs.Gatherings.{HasGathered}
-use Rattle.threads_senders.specs.Peers.{PeersState}
+use Rattle.threads_ports.specs.Peers.{PeersState}
 use Rattle.settle_account.proofs.counting.gather_all.Goals as goal
 
 pub loop-peers-init : goal.loop-peers-init

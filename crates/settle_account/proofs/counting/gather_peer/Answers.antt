@@ -1,6 +1,6 @@
 -- The sender is gathered at the port of its number.
 use Rattle.std.proofs.Common.{◌≡◌, ◌∙◌, ap, false, rules, sym}
-use Rattle.threads_senders.specs.Peers.{is_known}
+use Rattle.threads_ports.specs.Peers.{is_known}
 use Rattle.settle_account.proofs.GatherLemmas.{between, gathered_one, gatherings_set, has_put, number_is}
 use Rattle.settle_account.proofs.counting.gather_peer.Goals as goal
 

@@ -2,7 +2,7 @@
 use Rattle.std.proofs.Common.{All, subst}
 use Rattle.settle_account.proofs.GatherLemmas.{all_gathered, none_gathered}
 use Rattle.settle_account.specs.Gatherings.{IsGatheredBut}
-use Rattle.threads_senders.specs.Peers.{PeersState}
+use Rattle.threads_ports.specs.Peers.{PeersState}
 use Rattle.settle_account.proofs.counting.gather_place.Goals as goal
 
 pub loop-peer-init : goal.loop-peer-init

@@ -4,7 +4,7 @@ use Rattle.std.proofs.lemmas.List.{get_or_read}
 use Rattle.settle_account.proofs.CrossedLemmas.{all_ordered}
 use Rattle.settle_account.proofs.TimedLemmas.{all_rise}
 use Rattle.settle_account.specs.Crossed.{AreHeardAlone}
-use Rattle.threads_senders.specs.Peers.{PeersState}
+use Rattle.threads_ports.specs.Peers.{PeersState}
 use Rattle.settle_account.proofs.ordering.all_ordered.Goals as goal
 
 pub returns-then-branch : goal.returns-then-branch

@@ -7,7 +7,7 @@ use Rattle.settle_account.proofs.CrossedLemmas.{sent_all, sent_more, sent_none}
 use Rattle.settle_account.proofs.TimedLemmas.{all_rise, summary_of_both}
 use Rattle.settle_account.specs.Crossed.{IsSentBy}
 use Rattle.settle_summing.specs.Flows.{sent_passes}
-use Rattle.threads_senders.specs.Peers.{PeersState}
+use Rattle.threads_ports.specs.Peers.{PeersState}
 use Rattle.settle_account.proofs.ordering.send_all.Goals as goal
 
 pub loop-k-init : goal.loop-k-init

@@ -5,7 +5,7 @@ use Rattle.run_record.specs.Record.{RecordValue}
 use Rattle.settle_account.proofs.Lists.{at_done, at_more}
 use Rattle.settle_account.proofs.TimedLemmas.{summary_of_both}
 use Rattle.settle_account.specs.Account.{IsAllPut}
-use Rattle.threads_senders.specs.Peers.{PeersState}
+use Rattle.threads_ports.specs.Peers.{PeersState}
 use Rattle.settle_account.proofs.putting.all_put.Goals as goal
 
 pub all_put_by-requires : goal.all_put_by-requires

@@ -4,7 +4,7 @@ use Rattle.run_record.specs.Record.{RecordValue}
 use Rattle.settle_account.proofs.Lists.{at_more}
 use Rattle.settle_checks.specs.Outputs.{IsEnough}
 use Rattle.settle_meaning.specs.Puts.{IsNamed}
-use Rattle.threads_senders.specs.Peers.{put_to}
+use Rattle.threads_ports.specs.Peers.{put_to}
 use Rattle.settle_account.proofs.putting.put_to_one.Goals as goal
 
 pub loop-to-init : goal.loop-to-init

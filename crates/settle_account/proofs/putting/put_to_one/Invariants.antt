@@ -2,7 +2,7 @@ use Rattle.std.proofs.Common.{◌≡◌, ◌<◌, get_or, length, ℕ, List}
 use Rattle.run_record.specs.Record.{RecordValue}
 use Rattle.settle_checks.specs.Outputs.{AreNamed, IsEnough}
 use Rattle.settle_meaning.specs.Puts.{Heard, IsNamed}
-use Rattle.threads_senders.specs.Peers.{put_to}
+use Rattle.threads_ports.specs.Peers.{put_to}
 use Rattle.settle_account.proofs.putting.put_to_one.Given as goal
 
 abbrev pub invariant-loop-to : goal.invariant-loop-to

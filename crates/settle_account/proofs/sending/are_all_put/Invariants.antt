@@ -2,7 +2,7 @@ use Rattle.std.proofs.Common.{◌≡◌, ◌<◌, ◌≤◌, get_or, length, ℕ
 use Rattle.port_values.specs.declared.pid.Pid.TheVariants.{Of}
 use Rattle.settle_summing.specs.Totals.{total}
 use Rattle.settle_summing.specs.declared.flows.Flow.{Flow}
-use Rattle.threads_senders.specs.Peers.{put_to}
+use Rattle.threads_ports.specs.Peers.{put_to}
 use Rattle.settle_account.proofs.sending.are_all_put.Given as goal
 
 abbrev pub invariant-loop-flow : goal.invariant-loop-flow

@@ -4,7 +4,7 @@ use Rattle.run_record.specs.Record.{RecordValue}
 use Rattle.settle_account.proofs.SendLemmas.{rests_more}
 use Rattle.settle_account.specs.Crossed.{IsRestSent}
 use Rattle.settle_summing.specs.Flows.{is_with}
-use Rattle.threads_senders.specs.Peers.{put_to}
+use Rattle.threads_ports.specs.Peers.{put_to}
 use Rattle.settle_account.proofs.sending.send_late.Goals as goal
 
 pub loop-to-preserved : goal.loop-to-preserved

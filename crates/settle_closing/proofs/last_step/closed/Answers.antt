@@ -5,7 +5,7 @@ use Rattle.settle_closing.proofs.Stepping.{is_left}
 use Rattle.settle_closing.proofs.last_step.closed.Goals as goal
 use Rattle.threads_instance.specs.RunBy.{HasRunBy}
 use Rattle.threads_instance.specs.ThreadInstance.{HasPut}
-use Rattle.threads_senders.specs.Peers.{PeersState}
+use Rattle.threads_ports.specs.Peers.{PeersState}
 
 pub new-requires : goal.new-requires
 new-requires g c =

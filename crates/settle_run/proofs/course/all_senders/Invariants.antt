@@ -1,6 +1,6 @@
 use Rattle.std.proofs.Common.{◌≡◌, map, take}
 use Rattle.settle_run.specs.Course.{rows_of}
-use Rattle.threads_senders.specs.Peers.{senders_into}
+use Rattle.threads_ports.specs.Peers.{senders_into}
 use Rattle.settle_run.proofs.course.all_senders.Given as goal
 
 abbrev pub invariant-loop-peers : goal.invariant-loop-peers

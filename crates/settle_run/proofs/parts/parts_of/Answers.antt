@@ -11,7 +11,7 @@ use Rattle.settle_run.proofs.CourseLemmas.{all_yielded}
 use Rattle.settle_run.proofs.PartLemmas.{columns_more, columns_none, parts_more, parts_none, same_flags}
 use Rattle.settle_run.specs.Parts.{AreColumnsOf}
 use Rattle.threads_instance.specs.declared.doings.Child.{Child}
-use Rattle.threads_senders.specs.Peers.{PeersState}
+use Rattle.threads_ports.specs.Peers.{PeersState}
 use Rattle.settle_run.proofs.parts.parts_of.Goals as goal
 
 pub loop-closing-init : goal.loop-closing-init

@@ -10,7 +10,7 @@ use Rattle.settle_run.proofs.SettledLemmas.{report_settled}
 use Rattle.settle_run.specs.Gifts.{AreAllGiven}
 use Rattle.settle_run.specs.Parts.{AreColumnsOf, owner_at, peers_of}
 use Rattle.threads_instance.specs.declared.doings.Gifts.{Gifts}
-use Rattle.threads_senders.specs.Peers.{PeersState, senders_into}
+use Rattle.threads_ports.specs.Peers.{PeersState, senders_into}
 use Rattle.settle_run.proofs.report.report_of.Goals as goal
 
 pub settle_ports-requires-clause-puts : goal.settle_ports-requires-clause-puts

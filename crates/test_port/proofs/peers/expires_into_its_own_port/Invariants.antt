@@ -1,6 +1,6 @@
 -- In this run the port is whose it is said to be.
 use Rattle.std.proofs.Common.{None}
-use Rattle.threads_senders.specs.Run.{no_table}
+use Rattle.threads_ports.specs.Run.{no_table}
 use Rattle.test_port.proofs.peers.expires_into_its_own_port.Given as goal
 
 abbrev pub ghosts-expires : goal.ghosts-expires

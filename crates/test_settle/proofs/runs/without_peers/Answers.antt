@@ -4,7 +4,7 @@ use Rattle.port_values.specs.declared.value.Value.{Value}
 use Rattle.run_record.specs.Record.{RecordValue}
 use Rattle.settle_closing.specs.Left.{IsLeftOfOne}
 use Rattle.threads_instance.specs.declared.doings.Child.{Child}
-use Rattle.threads_senders.specs.Peers.{PeersState}
+use Rattle.threads_ports.specs.Peers.{PeersState}
 use Rattle.test_settle.proofs.runs.without_peers.Goals as goal
 
 pub new-requires-2 : goal.new-requires-2

@@ -1,8 +1,8 @@
 -- A signal that comes back is sent by a new sender.
 use Rattle.std.proofs.Common.{subst}
 use Rattle.threads_instance.proofs.Puts.{sent_later}
-use Rattle.threads_senders.specs.Peers.{GivesBack}
-use Rattle.threads_senders.specs.declared.not_put.NotPut.{NotPut}
+use Rattle.threads_ports.specs.Peers.{GivesBack}
+use Rattle.threads_ports.specs.declared.senders.not_put.NotPut.{NotPut}
 use Rattle.threads_instance.proofs.thread_world.send.Goals as goal
 
 pub returns-in-Err-Unknown-clause-ok : goal.returns-in-Err-Unknown-clause-ok

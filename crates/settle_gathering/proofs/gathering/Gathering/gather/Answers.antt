@@ -4,7 +4,7 @@ use Rattle.std.specs.Prelude.{is_err}
 use Rattle.settle_gathering.proofs.DrawLemmas.{gather_takes, gathered_here}
 use Rattle.settle_gathering.proofs.GivenLemmas.{gathers_one}
 use Rattle.settle_gathering.specs.Gathering.{GatheringState, PutNothing}
-use Rattle.threads_senders.specs.Peers.{put_by}
+use Rattle.threads_ports.specs.Peers.{put_by}
 use Rattle.settle_gathering.proofs.gathering.Gathering.gather.Goals as goal
 
 pub invariant_of-self-2 : goal.invariant_of-self-2

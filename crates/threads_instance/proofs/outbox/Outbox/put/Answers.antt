@@ -3,7 +3,7 @@ use Rattle.std.proofs.Common.{ap, subst, sym, ℕ, List}
 use Rattle.port_values.specs.declared.item.Item.{Item}
 use Rattle.threads_instance.proofs.Puts.{ends_put, ends_same}
 use Rattle.threads_instance.specs.Outbox.{AreEnds}
-use Rattle.threads_senders.specs.Peers.{PeersState, put_to}
+use Rattle.threads_ports.specs.Peers.{PeersState, put_to}
 use Rattle.threads_instance.proofs.outbox.Outbox.put.Goals as goal
 
 pub invariant_of-self : goal.invariant_of-self

@@ -1,5 +1,0 @@
-use Rattle.sdl_instances.proofs.Made.{IsMade}
-use Rattle.sdl_instances.proofs.processes.Processes.new.Given as goal
-
-abbrev pub invariant-loop-process : goal.invariant-loop-process
-invariant-loop-process l = IsMade l.process-items l.process-index l.rows.items l.least.items

@@ -1,9 +1,0 @@
-pub mod Ends
-pub mod Instances
-pub mod NumberSets
-pub mod Numbers
-pub mod Roster
-pub mod Rule
-pub mod Steps
-pub mod Views
-pub mod Words

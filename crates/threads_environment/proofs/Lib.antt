@@ -1,2 +1,0 @@
-pub mod HeardLines
-pub mod Sent

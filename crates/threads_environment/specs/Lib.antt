@@ -1,2 +1,0 @@
-pub mod Environment
-pub mod Sending

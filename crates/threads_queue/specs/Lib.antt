@@ -1,4 +1,0 @@
-pub mod Hall
-pub mod Local
-pub mod Numbers
-pub mod Places

@@ -1,6 +1,0 @@
-use Rattle.std.proofs.Common.{◌≡◌, take}
-use Rattle.threads_senders.specs.Peers.{senders_into}
-use Rattle.threads_senders.proofs.peers.Peers.senders_into.Given as goal
-
-abbrev pub invariant-loop-place : goal.invariant-loop-place
-invariant-loop-place g l = l.list.items ≡ senders_into (take l.place l.self-inside.senders.entries)

@@ -1,4 +1,0 @@
-pub mod Peers
-pub mod Rows
-pub mod Run
-pub mod SenderLaws
