@@ -45,7 +45,7 @@ use Rattle.settle_closing.proofs.PortLemmas.{drawn_in_time, drawn_puts, history_
 use Rattle.settle_closing.specs.ClosingLaws.{ClosedHaveHistories, ClosedHavePut, LeftWithoutPeers}
 use Rattle.settle_closing.specs.History.{EndsAs, HasHistoryOf, RestsStill}
 use Rattle.settle_closing.specs.Left.{IsLeft}
-use Rattle.settle_gathering.specs.Gathering.{Draws}
+use Rattle.settle_checks.specs.Gathering.{Draws}
 use Rattle.settle_meaning.specs.Closed.{ClosesAs, EndsIn, IsCut, IsEnd}
 use Rattle.settle_meaning.specs.Histories.{IsInTime, puts_of}
 use Rattle.settle_meaning.specs.Identities.{identity_of}

@@ -12,7 +12,7 @@ use Rattle.sdl_system.specs.Behaviour.{Behaviour}
 use Rattle.sdl_system.specs.System.{SystemValue}
 use Rattle.settle_closing.specs.History.{EndsAs, HasHistoryOf}
 use Rattle.settle_closing.specs.Left.{IsLeft, IsLeftOfOne}
-use Rattle.settle_gathering.specs.Gathering.{Draws}
+use Rattle.settle_checks.specs.Gathering.{Draws}
 use Rattle.threads_instance.specs.declared.doings.Child.{Child}
 use Rattle.threads_ports.specs.Peers.{ArePeersOf, PeersState}
 

@@ -14,9 +14,9 @@ use Rattle.run_course.specs.declared.course.Course.{Course}
 use Rattle.run_course.specs.declared.course.SenderInto.{SenderInto}
 use Rattle.run_course.specs.declared.course_log.CourseLog.{CourseLog}
 use Rattle.run_record.specs.Record.{RecordValue}
-use Rattle.settle_account.specs.Account.{AreCountsOf, IsCountOf, put_at}
+use Rattle.settle_checks.specs.Account.{AreCountsOf, IsCountOf, put_at}
 use Rattle.settle_closing.specs.Left.{ClosingState}
-use Rattle.settle_gathering.specs.Gathering.{CountedState}
+use Rattle.settle_checks.specs.Gathering.{CountedState}
 use Rattle.settle_run.specs.Course.{ArePuts, AreRowsOf, HasDrawnOf, HasPuts, HasPutsInto, HasPutsOf, HasRows, HasVersionsOf, rows_of}
 use Rattle.settle_run.specs.Parts.{AreColumnsOf, logs_of, owner_at, peers_of, records_of}
 use Rattle.threads_ports.specs.Peers.{PeersState, senders_into}

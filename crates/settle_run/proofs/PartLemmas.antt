@@ -11,7 +11,7 @@ use Rattle.port_queue.specs.Ends.{newborn}
 use Rattle.run_course.specs.declared.course_log.CourseLog.{CourseLog}
 use Rattle.run_record.specs.Record.{RecordValue}
 use Rattle.sdl_system.specs.System.{SystemValue}
-use Rattle.settle_account.specs.Account.{AllAt, AreOwnersOf, HavePut, put_at}
+use Rattle.settle_checks.specs.Account.{AllAt, AreOwnersOf, HavePut, put_at}
 use Rattle.settle_closing.specs.Left.{ClosingState, IsLeftOfOne}
 use Rattle.settle_closing.specs.PortThen.{then_of}
 use Rattle.settle_closing.specs.declared.ending.PortThen.{PortThen}

@@ -3,8 +3,8 @@ use Rattle.std.proofs.Common.{subst, ℕ, Bool, List}
 use Rattle.port_inbox.specs.Ends.{OwnerState}
 use Rattle.port_values.specs.declared.item.Item.{Item}
 use Rattle.run_record.specs.Record.{RecordValue}
-use Rattle.settle_account.specs.Account.{IsCountOf}
-use Rattle.settle_gathering.specs.Gathering.{CountedState}
+use Rattle.settle_checks.specs.Account.{IsCountOf}
+use Rattle.settle_checks.specs.Gathering.{CountedState}
 use Rattle.settle_run.specs.Parts.{IsSettledPort}
 
 -- what was seen of a count is so of the port of the record at this place

@@ -15,8 +15,8 @@ use Rattle.sdl_script.specs.declared.script.ScriptLine.{ScriptLine}
 use Rattle.sdl_system.specs.Behaviour.{Behaviour}
 use Rattle.sdl_system.specs.System.{SystemValue}
 use Rattle.sdl_system.specs.declared.route.Target.{Target}
-use Rattle.settle_account.specs.Account.{AreCompared, ArePlaces, AreTimed, CountedHavePut, HasPut, HaveSignals, put_at}
-use Rattle.settle_account.specs.Ending.{IsEnding}
+use Rattle.settle_checks.specs.Account.{AreCompared, ArePlaces, AreTimed, CountedHavePut, HasPut, HaveSignals, put_at}
+use Rattle.settle_checks.specs.Ending.{IsEnding}
 use Rattle.settle_checks.specs.Outputs.{targets_of}
 use Rattle.settle_closing.specs.ClosingLaws.{ClosedHaveHistories, ClosedHavePut}
 use Rattle.settle_closing.specs.History.{HasHistoryOf}

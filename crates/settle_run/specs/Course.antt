@@ -9,9 +9,9 @@ use Rattle.run_course.specs.declared.course.Course.{Course}
 use Rattle.run_course.specs.declared.course.SenderInto.{SenderInto}
 use Rattle.run_course.specs.declared.course_log.CourseLog.{CourseLog}
 use Rattle.run_record.specs.Record.{RecordValue}
-use Rattle.settle_account.specs.Account.{AllAt, put_at}
+use Rattle.settle_checks.specs.Account.{AllAt, put_at}
 use Rattle.settle_closing.specs.Left.{ClosingState}
-use Rattle.settle_gathering.specs.Gathering.{CountedState, IsCounted}
+use Rattle.settle_checks.specs.Gathering.{CountedState, IsCounted}
 use Rattle.settle_run.specs.Parts.{logs_of, peers_of}
 use Rattle.threads_ports.specs.Peers.{PeersState, senders_into}
 

@@ -3,7 +3,7 @@ use Rattle.std.specs.Prelude.{◌≡◌, ℕ, List, [], All, map, slice_index_or
 use Rattle.port_values.specs.declared.pid.Pid.TheVariants.{Null}
 use Rattle.port_values.specs.declared.value.Value.{Value}
 use Rattle.run_record.specs.Record.{RecordValue}
-use Rattle.settle_account.specs.Account.{AllAt}
+use Rattle.settle_checks.specs.Account.{AllAt}
 use Rattle.threads_instance.specs.declared.doings.Child.{Child}
 use Rattle.threads_instance.specs.declared.doings.Gifts.{Gifts}
 

@@ -10,12 +10,12 @@ use Rattle.port_values.specs.declared.item.Item.{Item}
 use Rattle.run_course.specs.declared.course_log.CourseLog.{CourseLog}
 use Rattle.run_record.specs.Record.{RecordValue}
 use Rattle.sdl_system.specs.System.{SystemValue}
-use Rattle.settle_account.specs.Account.{AllAt}
+use Rattle.settle_checks.specs.Account.{AllAt}
 use Rattle.settle_closing.specs.History.{EndsAs}
 use Rattle.settle_closing.specs.Left.{ClosingState, IsLeftOfOne}
 use Rattle.settle_closing.specs.PortThen.{then_of}
 use Rattle.settle_closing.specs.declared.ending.PortThen.{PortThen}
-use Rattle.settle_gathering.specs.Gathering.{IsCounted}
+use Rattle.settle_checks.specs.Gathering.{IsCounted}
 use Rattle.settle_run.specs.Gifts.{children_at, given_at}
 use Rattle.threads_instance.specs.declared.doings.Gifts.{Gifts}
 use Rattle.threads_ports.specs.Peers.{PeersState}

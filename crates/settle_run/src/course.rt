@@ -6,7 +6,7 @@ ghost use Rattle.settle_run.specs.Course.{HasDrawnOf, HasPutsOf, HasVersionsOf, 
 ghost use Rattle.threads_ports.specs.Peers.{senders_into};
 
 use run_course::{Course, CourseLog, SenderInto};
-use settle_gathering::{Counted, Fixed};
+use settle_checks::{Counted, Fixed};
 use std::alloc::{AllocError, Global};
 use std::sync::Wait;
 use threads_ports::{Peers, Run};

@@ -15,6 +15,6 @@ mod settled;
 mod settling;
 
 pub use report::report_of;
-pub use settle_account::Ending;
+pub use settle_checks::Ending;
 pub use settled::Settled;
 pub use settling::settle;

@@ -1,7 +1,7 @@
 //! The ports of a run, once all that was put is drawn.
 
 ghost use Rattle.std.specs.Prelude.{◌≡◌, ℕ, false, IfOk, IfSome, None, OnOk, vec_len};
-ghost use Rattle.settle_account.specs.Account.{AllAt, AreCountsOf, AreOwnersOf, HavePut};
+ghost use Rattle.settle_checks.specs.Account.{AllAt, AreCountsOf, AreOwnersOf, HavePut};
 ghost use Rattle.settle_closing.specs.PortThen.{then_of};
 ghost use Rattle.settle_run.specs.Course.{ArePuts};
 ghost use Rattle.settle_run.specs.Parts.{AreSettledPorts, AreThensOf, IsSettledPort};
@@ -11,9 +11,8 @@ use crate::parts::PortParts;
 use input_port::Held;
 use port_values::Ticks;
 use run_record::{Record, RunError};
-use settle_account::counts_of;
+use settle_checks::{Counted, Fixed, counts_of};
 use settle_closing::{PortThen, ends_as};
-use settle_gathering::{Counted, Fixed};
 use std::sync::Wait;
 use threads_ports::Run;
 use threads_shared::Shared;

@@ -8,7 +8,7 @@ use crate::report::report_of;
 use crate::settled::Settled;
 use port_values::Ticks;
 use run_record::RunError;
-use settle_account::Ending;
+use settle_checks::Ending;
 use settle_closing::{Closing, close};
 use settle_rest::run_rest;
 use std::sync::Wait;

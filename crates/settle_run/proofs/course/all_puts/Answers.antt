@@ -8,7 +8,7 @@ use Rattle.std.proofs.lemmas.Slice.Zip.{all_zipped_more}
 use Rattle.port_inbox.specs.Ends.{OwnerState}
 use Rattle.port_queue.specs.Kept.{senders_of}
 use Rattle.port_values.specs.declared.item.Item.{Item}
-use Rattle.settle_gathering.specs.Gathering.{CountedState, IsCounted}
+use Rattle.settle_checks.specs.Gathering.{CountedState, IsCounted}
 use Rattle.settle_run.specs.Course.{HasPutsOf}
 use Rattle.settle_run.proofs.CourseLemmas.{all_yielded}
 use Rattle.settle_run.proofs.course.all_puts.Goals as goal

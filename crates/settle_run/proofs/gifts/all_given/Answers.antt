@@ -2,7 +2,7 @@
 use Rattle.std.proofs.Common.{arith, rules, subst, ℕ, List}
 use Rattle.port_values.specs.declared.value.Value.{Value}
 use Rattle.run_record.specs.Record.{RecordValue}
-use Rattle.settle_account.proofs.Lists.{at_done, at_more}
+use Rattle.settle_checks.proofs.AccountLists.{at_done, at_more}
 use Rattle.settle_run.proofs.GiftLemmas.{given_one}
 use Rattle.settle_run.specs.Gifts.{IsGivenOne, children_at, given_at, given_by}
 use Rattle.settle_run.proofs.gifts.all_given.Goals as goal

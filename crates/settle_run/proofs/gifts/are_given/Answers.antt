@@ -1,6 +1,6 @@
 -- One child more.
 use Rattle.std.proofs.Common.{arith}
-use Rattle.settle_account.proofs.Lists.{at_more}
+use Rattle.settle_checks.proofs.AccountLists.{at_more}
 use Rattle.settle_run.specs.Gifts.{GetsThese, given_by}
 use Rattle.threads_instance.specs.declared.doings.Child.{Child}
 use Rattle.settle_run.proofs.gifts.are_given.Goals as goal

@@ -1,10 +1,10 @@
 -- One port more.
 use Rattle.std.proofs.Common.{◌∙◌, ◌<◌, ap, length, rules, subst, sym}
 use Rattle.run_record.specs.Record.{RecordValue}
-use Rattle.settle_account.proofs.Lists.{at_done, at_more}
-use Rattle.settle_account.specs.Account.{IsCountOf}
+use Rattle.settle_checks.proofs.AccountLists.{at_done, at_more}
+use Rattle.settle_checks.specs.Account.{IsCountOf}
 use Rattle.settle_closing.specs.PortThen.{then_of}
-use Rattle.settle_gathering.specs.Gathering.{CountedState}
+use Rattle.settle_checks.specs.Gathering.{CountedState}
 use Rattle.settle_run.proofs.PortLemmas.{port_at}
 use Rattle.settle_run.specs.Parts.{IsSettledPort}
 use Rattle.settle_run.proofs.ports.look_at_all.Goals as goal

@@ -1,6 +1,6 @@
 use Rattle.std.proofs.Common.{◌<◌, get_or, ℕ}
 use Rattle.run_record.specs.Record.{RecordValue}
-use Rattle.settle_account.specs.Account.{AreCountsOf}
+use Rattle.settle_checks.specs.Account.{AreCountsOf}
 use Rattle.settle_run.specs.Parts.{IsSettledPort}
 use Rattle.settle_run.proofs.ports.look_at_all.Given as goal
 

@@ -3,7 +3,7 @@ use Rattle.std.proofs.Common.{◌≡◌, ◌∙◌, ◌∷◌, ap, map, List, So
 use Rattle.input_port.specs.Ends.{HeldState}
 use Rattle.run_record.specs.Record.{RecordValue}
 use Rattle.run_record.specs.declared.record.Report.{Report}
-use Rattle.settle_account.specs.Account.{AreOwnersOf}
+use Rattle.settle_checks.specs.Account.{AreOwnersOf}
 use Rattle.settle_run.proofs.CourseLemmas.{are_rows, has_rows, some_puts}
 use Rattle.settle_run.proofs.PartLemmas.{are_owners, have_put}
 use Rattle.settle_run.proofs.SettledLemmas.{report_settled}

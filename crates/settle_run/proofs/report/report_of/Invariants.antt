@@ -1,4 +1,4 @@
-use Rattle.settle_account.specs.Account.{put_at}
+use Rattle.settle_checks.specs.Account.{put_at}
 use Rattle.settle_run.specs.Parts.{owner_at}
 use Rattle.settle_run.proofs.report.report_of.Given as goal
 

@@ -1,8 +1,0 @@
--- All was put to whom the flows lead.
-use Rattle.settle_account.proofs.SendLemmas.{all_put_to}
-use Rattle.settle_account.proofs.sending.are_all_put.Goals as goal
-
-pub returns : goal.returns
-returns g c = λ whole number.
-    all_put_to c.args.flows.now c.loop-flow.flow-index c.args.totals.now c.args.peers.now c.requires
-    c.loop-flow-test.false c.loop-flow.invariant number

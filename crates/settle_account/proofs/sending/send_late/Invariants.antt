@@ -1,6 +1,0 @@
-use Rattle.settle_account.proofs.SendLemmas.{AreRestsSent}
-use Rattle.settle_account.proofs.sending.send_late.Given as goal
-
-abbrev pub invariant-loop-to : goal.invariant-loop-to
-invariant-loop-to g l =
-    AreRestsSent l.records l.sums l.from l.passes l.peers l.to-index l.initial.sent.items l.sent.items

@@ -1,3 +1,0 @@
-mod DrawLemmas
-mod GivenLemmas
-mod PutLemmas

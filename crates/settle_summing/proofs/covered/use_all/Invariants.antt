@@ -1,7 +1,0 @@
-use Rattle.std.proofs.Common.{take}
-use Rattle.settle_summing.proofs.CoveredLemmas.{AreCoveredBy}
-use Rattle.settle_summing.proofs.covered.use_all.Given as goal
-
-abbrev pub invariant-loop-one : goal.invariant-loop-one
-invariant-loop-one l =
-    AreCoveredBy l.initial.left l.left (take l.one-index l.taken)

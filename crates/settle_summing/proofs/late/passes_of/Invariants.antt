@@ -1,9 +1,0 @@
-use Rattle.std.proofs.Common.{◌≡◌, ◌++◌, List}
-use Rattle.run_record.specs.Event.{Event}
-use Rattle.settle_summing.specs.Late.{IsSightOf}
-use Rattle.settle_summing.proofs.late.passes_of.Given as goal
-
-abbrev pub invariant-loop-told : goal.invariant-loop-told
-invariant-loop-told l =
-    (done : List Event) × (l.trace.events ≡ done ++ l.told-iterator)
-    × IsSightOf done l.sight.time l.sight.passes.items

@@ -1,6 +1,0 @@
--- A lemma says so.
-use Rattle.settle_summing.proofs.PassLemmas.{sends_are_in_turn as law}
-use Rattle.settle_summing.proofs.laws.sends_are_in_turn.Goals as goal
-
-pub returns : goal.returns
-returns c = law

@@ -1,7 +1,0 @@
-use Rattle.std.proofs.Common.{All, take}
-use Rattle.settle_summing.specs.Starts.{IsBornBy}
-use Rattle.settle_summing.proofs.starts.are_born.Given as goal
-
-abbrev pub invariant-loop-birth : goal.invariant-loop-birth
-invariant-loop-birth l =
-    All (IsBornBy l.records l.creator) (take l.birth-index l.births)

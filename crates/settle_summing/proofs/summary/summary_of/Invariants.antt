@@ -1,8 +1,0 @@
-use Rattle.std.proofs.Common.{◌≡◌, ◌++◌, List}
-use Rattle.run_record.specs.Event.{Event}
-use Rattle.settle_summing.specs.Summary.{IsSummedUp}
-use Rattle.settle_summing.proofs.summary.summary_of.Given as goal
-
-abbrev pub invariant-loop-told : goal.invariant-loop-told
-invariant-loop-told l =
-    (done : List Event) × (l.trace.events ≡ done ++ l.told-iterator) × IsSummedUp l.process done l.summary
