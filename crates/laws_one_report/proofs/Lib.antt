@@ -7,4 +7,5 @@ mod Lacking
 mod Moves
 mod Reports
 mod Resting
+mod SweepLemmas
 mod Turns

@@ -1,6 +1,6 @@
 //! The sweeps of a serial run, as functions that do nothing.
 
-ghost use Rattle.laws_sweeps.specs.Sweeps.{BeginningBeginsSweep, StepsAreSweeps, TicksBeginSweep};
+ghost use Rattle.laws_one_report.specs.Sweeps.{BeginningBeginsSweep, StepsAreSweeps, TicksBeginSweep};
 
 /// The steps between two moves of the clock part into sweeps. In each the numbers ascend, and none is past those that
 /// were there when it began; so each makes one step in it at most, and one that makes none rested when it was its turn

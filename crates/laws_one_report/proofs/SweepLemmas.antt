@@ -11,7 +11,7 @@ use Rattle.sdl_timers.specs.DueOrder.{with_fuse}
 use Rattle.serial_order.specs.Execution.{Execution, Expired, Happening, Heard, IsTurn, Moved, RestBetween, Steps, Ticked, begins_anew, goes_on}
 use Rattle.serial_order.specs.Execution as execution
 use Rattle.serial_order.specs.RunState.{RunState, after_effect, after_effects, change_at, instance_at, with_expiry, with_instance}
-use Rattle.laws_sweeps.specs.Sweeps.{AreSteps, AreSweeps, BeginningBeginsSweep, BeginsSweep, IsSweep, PartsIntoSweeps, StepsAreSweeps, Sweeping, TicksBeginSweep, begins, none, one_more, steps}
+use Rattle.laws_one_report.specs.Sweeps.{AreSteps, AreSweeps, BeginningBeginsSweep, BeginsSweep, IsSweep, PartsIntoSweeps, StepsAreSweeps, Sweeping, TicksBeginSweep, begins, none, one_more, steps}
 
 -- ---- what is done outside leaves the marks
 

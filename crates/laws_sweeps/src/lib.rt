@@ -1,7 +1,0 @@
-//! The order of the steps in a serial run, in the words of its sweeps (Z.101: agent instance set), as a law of the
-//! definitions of `serial_order`.
-//!
-//! `Sweeps` says what a sweep is, without the marks by which the state of a run tells whose turn it is.
-#![tactic(auto)]
-
-pub mod laws;
