@@ -4,7 +4,7 @@ use crate::mistake::Mistake;
 use clap::ArgMatches;
 use sdl_views::coverage_form;
 use std::alloc::Global;
-use view_covered::Form;
+use view_coverage::Form;
 
 /// What a run covered, and the file into which it goes.
 #[derive(Drop)]

@@ -4,8 +4,8 @@ use Rattle.run_record.specs.declared.record.Report.{Report}
 use Rattle.sdl_report.specs.ReportText.{report_text}
 use Rattle.sdl_script.specs.declared.script.ScriptLine.{ScriptLine}
 use Rattle.sdl_system.specs.System.{SystemValue}
-use Rattle.view_json.specs.JsonText.{json_text}
-use Rattle.view_lines.specs.LinesText.{lines_text}
+use Rattle.view_text.specs.JsonText.{json_text}
+use Rattle.view_text.specs.LinesText.{lines_text}
 use Rattle.view_run.specs.Order.{IsOrderBy, lost_to}
 use Rattle.view_run.specs.declared.order_log.OrderLog.{OrderLog}
 use Rattle.view_timeline.specs.declared.moves.Timeline.{Timeline}

@@ -4,7 +4,7 @@ ghost use Rattle.std.specs.Prelude.{◌≡◌, IfErr, IfOk, map};
 ghost use Rattle.std.specs.List.{AllByRecursion};
 ghost use Rattle.sdl_engine.specs.Views.{IsOrderOf};
 ghost use Rattle.view_run.specs.Order.{lost_to};
-ghost use Rattle.view_steps.specs.Sending.{sending_value};
+ghost use Rattle.view_text.specs.Sending.{sending_value};
 ghost use Rattle.view_timeline.specs.Moves.{IsPart};
 ghost use Rattle.view_timeline.specs.Timeline.{AreBegun};
 

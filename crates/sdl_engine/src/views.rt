@@ -9,8 +9,7 @@ use crate::run::{Run, signals_of};
 use crate::runner::Runner;
 use std::alloc::Global;
 use std::io::Write;
-use view_json::write_json;
-use view_lines::write_lines;
+use view_text::{write_json, write_lines};
 
 /// Writes a run in this view. So many workers make the text of its report, if there are threads for them. It answers
 /// the instance that can't go on, where its order is asked for and isn't known to the end.

@@ -5,7 +5,7 @@ use Rattle.run_record.specs.Event.{Event}
 use Rattle.sdl_expected.specs.Outputs.{outputs_in, outputs_of, sent_text, time_after}
 use Rattle.sdl_expected.proofs.GrowthLemmas.{moved}
 use Rattle.sdl_system.specs.System.{SystemValue}
-use Rattle.view_steps.specs.Walk.{StepValue}
+use Rattle.view_text.specs.Walk.{StepValue}
 
 -- an event of an instance
 pub event_more : (system : SystemValue) (who : ℕ) (all before after : List ℕ) (now next number : ℕ) (event : Event)

@@ -11,7 +11,7 @@ use Rattle.sdl_expected.specs.Sender.{sender_text}
 use Rattle.sdl_report.specs.ReportText.{signal_text}
 use Rattle.sdl_system.specs.System.{SystemValue}
 use Rattle.sdl_system.specs.declared.route.Target.TheVariants as reached
-use Rattle.view_steps.specs.Walk.{StepValue}
+use Rattle.view_text.specs.Walk.{StepValue}
 
 -- the time after an event: one with which a transition begins has its own
 abbrev pub time_after : ℕ → event.Event → ℕ

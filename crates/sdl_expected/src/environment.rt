@@ -9,7 +9,7 @@ ghost use Rattle.port_values.specs.declared.value.Value.{Value};
 ghost use Rattle.run_record.specs.Entry.{event_of};
 ghost use Rattle.sdl_expected.specs.Outputs.{output_line, outputs_by_sender, outputs_in, outputs_of, sent_text, time_after};
 ghost use Rattle.sdl_system.specs.System.{SystemValue};
-ghost use Rattle.view_steps.specs.Walk.{all_steps};
+ghost use Rattle.view_text.specs.Walk.{all_steps};
 ghost use Rattle.view_timeline.specs.Moves.{IsPart};
 ghost use Rattle.view_timeline.specs.Timeline.{AreBegun};
 
@@ -18,7 +18,7 @@ use run_record::{Entry, Record, Report};
 use sdl_report::push_signal;
 use sdl_system::{System, Target};
 use std::alloc::{AllocError, Global};
-use view_steps::Walk;
+use view_text::Walk;
 use view_timeline::{Cursor, Timeline};
 
 /// The signals that a run sends to the environment, in the order of a timeline of its report: a line each, as

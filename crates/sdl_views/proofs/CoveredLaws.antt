@@ -1,8 +1,8 @@
 -- When a text says what a run covered.
 use Rattle.std.proofs.Common.{ℕ, List, Result, Ok, Err, IfOk}
-use Rattle.view_covered.specs.Covered.{IsCoverage}
-use Rattle.view_covered.specs.declared.run.Form.{Form}
-use Rattle.view_covered.specs.declared.run.Run.{Run}
+use Rattle.view_coverage.specs.Covered.{IsCoverage}
+use Rattle.view_coverage.specs.declared.covered.run.Form.{Form}
+use Rattle.view_coverage.specs.declared.covered.run.Run.{Run}
 use Rattle.sdl_views.specs.Covered.{IsRunOf, SaysCovered}
 use Rattle.sdl_views.specs.declared.covering.ToldRun.{ToldRun}
 

@@ -8,10 +8,10 @@ use Rattle.sdl_report.specs.declared.write_whole.WriteFault.{WriteFault}
 use Rattle.sdl_report.specs.declared.write_whole.WriteFault.TheVariants as written
 use Rattle.std.specs.Io.KnownBytes.{Appends}
 use Rattle.std.specs.String.{string_bytes}
-use Rattle.view_msc.specs.MscText.{msc_text}
-use Rattle.view_picture.specs.Written.{IsBrokenOff, IsWritten}
+use Rattle.view_text.specs.MscText.{msc_text}
+use Rattle.view_chart.specs.Written.{IsBrokenOff, IsWritten}
 use Rattle.view_run.specs.Order.{lost_to}
-use Rattle.view_steps.specs.Sending.{SendingValue}
+use Rattle.view_text.specs.Sending.{SendingValue}
 use Rattle.view_timeline.specs.declared.moves.Timeline.{Timeline}
 use Rattle.sdl_views.specs.Drawn.{FailsToDraw, IsBegun, IsChart, IsDrawn}
 use Rattle.sdl_views.specs.declared.form.Form.{Form}

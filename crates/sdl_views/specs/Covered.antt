@@ -5,9 +5,9 @@ use Rattle.sdl_engine.specs.declared.options.TextFault.{TextFault}
 use Rattle.sdl_engine.specs.declared.options.TextFault.TheVariants as faults
 use Rattle.sdl_input.specs.Parts.{HasParts}
 use Rattle.sdl_report.specs.Gathered.{BreaksOff}
-use Rattle.view_covered.specs.Covered.{IsCoverage}
-use Rattle.view_covered.specs.declared.run.Form.{Form}
-use Rattle.view_covered.specs.declared.run.Run.{Run}
+use Rattle.view_coverage.specs.Covered.{IsCoverage}
+use Rattle.view_coverage.specs.declared.covered.run.Form.{Form}
+use Rattle.view_coverage.specs.declared.covered.run.Run.{Run}
 use Rattle.sdl_views.specs.declared.covering.ToldRun.{ToldRun}
 
 -- the same run, its texts parted

@@ -7,7 +7,7 @@ use Rattle.sdl_engine.specs.declared.options.TextFault.{TextFault}
 use Rattle.sdl_engine.specs.declared.options.TextFault.TheVariants as faults
 use Rattle.sdl_engine.specs.declared.run.Run.{Run}
 use Rattle.sdl_report.specs.Gathered.{BreaksOff}
-use Rattle.view_msc.specs.MscText.{msc_text}
+use Rattle.view_text.specs.MscText.{msc_text}
 use Rattle.view_run.specs.Order.{lost_to}
 use Rattle.sdl_views.specs.declared.form.Form.{Form}
 use Rattle.sdl_views.specs.declared.form.Form.TheVariants as forms

@@ -3,7 +3,7 @@ use Rattle.std.specs.Prelude.{◌≡◌, ℕ, Bool, true, false, List, Option, N
 use Rattle.sdl_engine.specs.Views.{IsInOrder}
 use Rattle.sdl_engine.specs.declared.run.Run.{Run}
 use Rattle.sdl_expected.specs.Outputs.{outputs_by_sender, outputs_of}
-use Rattle.view_steps.specs.Walk.{all_steps}
+use Rattle.view_text.specs.Walk.{all_steps}
 
 -- The text of what a run sends to the environment: with workers that of each instance by itself, else in the order of
 -- the run, up to the instance that can't go on, if one can't.

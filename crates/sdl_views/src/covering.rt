@@ -8,7 +8,7 @@ use sdl_input::Texts;
 use sdl_report::write_text;
 use std::alloc::{AllocError, Global};
 use std::io::Write;
-use view_covered::{Form, coverage};
+use view_coverage::{Form, coverage};
 
 /// The form of the text on coverage that the ending of a file's name chooses.
 pub fn coverage_form(name: &str) -> Option<Form> {
@@ -54,7 +54,7 @@ fn covered_text(alloc: Global, told: &ToldRun<'_>, form: Form) -> Result<String,
     ensures { IfOk result (λ text. SaysCovered told.now form (string_bytes text)) }
 {
     let (text, script) = told.texts.parts();
-    let covered = view_covered::Run {
+    let covered = view_coverage::Run {
         text,
         script,
         limit: told.options.limit,

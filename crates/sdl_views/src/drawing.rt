@@ -9,7 +9,7 @@ use sdl_engine::{Run, TextFault, order_of};
 use std::alloc::Global;
 use std::io::Write;
 use view_chart::Selection;
-use view_msc::write_msc;
+use view_text::write_msc;
 
 /// Writes a run as a chart in this form. A picture shows what is selected, and a text of Z.120 the whole run. It answers
 /// the instance that can't go on, where the order of the run isn't known to the end.

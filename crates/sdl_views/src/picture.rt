@@ -2,15 +2,14 @@
 
 ghost use Rattle.std.specs.Prelude.{◌≢◌, IfErr, IfOk, OnErr, OnOk};
 ghost use Rattle.sdl_views.specs.Drawn.{FailsToDraw, IsDrawn};
-ghost use Rattle.view_picture.specs.Written.{IsBrokenOff, IsWritten};
+ghost use Rattle.view_chart.specs.Written.{IsBrokenOff, IsWritten};
 
 use crate::form::Form;
 use sdl_engine::{Order, Run, TextFault, order_of};
 use sdl_report::WriteFault;
 use std::alloc::{AllocError, Global};
 use std::io::Write;
-use view_chart::{Chart, Selection, Subject, lay_out};
-use view_picture::{write_html, write_svg};
+use view_chart::{Chart, Selection, Subject, lay_out, write_html, write_svg};
 
 /// Writes what is selected of a run as a picture, or as a page with it. It answers the instance that can't go on, where
 /// the order of the run isn't known to the end.

@@ -4,12 +4,12 @@ ghost use Rattle.std.specs.Prelude.{All};
 ghost use Rattle.sdl_script.specs.Script.{SendsFromEnv};
 
 use crate::given::{Given, make_given};
-use run_replay::{Found, find_order};
 use sdl_workers::{Open, Settled, run_with_course};
 use std::alloc::Global;
 use std::process::Abort;
 use std::sync::Wait;
 use std::thread::Threads;
+use view_run::{Found, find_order};
 
 /// How many workers make a run.
 static CREWS: [usize; 3] = [1, 2, 4];

@@ -8,10 +8,10 @@ use port_model::Got;
 use port_values::{Item, Pid, SignalId, Ticks, Value, Values};
 use run_course::{Course, SenderInto};
 use run_record::{Failure, Record, Report};
-use run_replay::{Found, find_order};
 use sdl_system::{Dest, ProcessId, StateId, Target};
 use std::alloc::{AllocError, Global};
 use std::process::Abort;
+use view_run::{Found, find_order};
 
 /// What an instance does. It is in its first state whenever it waits.
 #[derive(Clone, Copy)]

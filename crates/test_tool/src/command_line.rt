@@ -215,26 +215,26 @@ fn refuses_charts_that_cannot_be(rt: HostRuntime) {
 }
 
 /// A file that tells what a run covered, and its form.
-type Covered<'a> = (&'a str, view_covered::Form);
+type Covered<'a> = (&'a str, view_coverage::Form);
 
 /// Command lines, and the file that tells what the run covered.
 static COVERAGE: [(&str, Option<Covered<'static>>); 5] = [
     ("sdlrun run a.txt", None),
     (
         "sdlrun run --coverage a.txt",
-        Some(("a.txt", view_covered::Form::Plain)),
+        Some(("a.txt", view_coverage::Form::Plain)),
     ),
     (
         "sdlrun run --coverage=b/a.txt.info b",
-        Some(("b/a.txt.info", view_covered::Form::Lcov)),
+        Some(("b/a.txt.info", view_coverage::Form::Lcov)),
     ),
     (
         "sdlrun run b --coverage .info --workers 2",
-        Some((".info", view_covered::Form::Lcov)),
+        Some((".info", view_coverage::Form::Lcov)),
     ),
     (
         "sdlrun run --json --chart a.svg --coverage a.txt --strict a",
-        Some(("a.txt", view_covered::Form::Plain)),
+        Some(("a.txt", view_coverage::Form::Plain)),
     ),
 ];
 

@@ -12,7 +12,7 @@ use std::process::Abort;
 use std::sync::Wait;
 use std::thread::Threads;
 use view_chart::Selection;
-use view_covered::Form;
+use view_coverage::Form;
 
 static TEXT: &str = "system S; signal a, b; process P; dcl n Integer := 0;
 start; nextstate s;

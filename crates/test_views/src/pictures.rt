@@ -2,7 +2,7 @@
 
 use crate::relay::{RELAY, SCRIPT};
 use crate::runs::{all, chart_of, run_of};
-use view_picture::{write_html, write_svg};
+use view_chart::{write_html, write_svg};
 
 static TITLE: &str = "a < \"b\"";
 

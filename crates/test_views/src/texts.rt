@@ -13,9 +13,7 @@ use sdl_system::System;
 use serial_run::run_serial;
 use std::alloc::Global;
 use std::process::Abort;
-use view_json::write_json;
-use view_lines::write_lines;
-use view_msc::write_msc;
+use view_text::{write_json, write_lines, write_msc};
 use view_timeline::{Timeline, Untold, timeline_in};
 
 static LIMIT: u64 = 1_000_000;

@@ -1,2 +1,5 @@
+pub mod Ends
+pub mod Markup
 pub mod Selection
 pub mod Words
+pub mod Written

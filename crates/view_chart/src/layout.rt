@@ -8,7 +8,7 @@ use crate::selection::Selection;
 use run_record::Report;
 use sdl_system::System;
 use std::alloc::{AllocError, Global};
-use view_steps::Sending;
+use view_text::Sending;
 use view_timeline::Timeline;
 
 /// What a chart is made of: a report of a run, its system, and its timeline. `stuck` is the instance at which the

@@ -8,7 +8,7 @@ use crate::words::{label_with, signal_label};
 use port_values::Ticks;
 use sdl_system::Target;
 use std::alloc::AllocError;
-use view_steps::Sending;
+use view_text::Sending;
 use view_timeline::Link;
 
 impl<'r> Layout<'r> {

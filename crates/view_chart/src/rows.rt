@@ -13,7 +13,7 @@ use port_values::{Ticks, Value};
 use run_record::{Entry, Report};
 use sdl_system::{StateId, System};
 use std::alloc::{AllocError, Global};
-use view_steps::Sending;
+use view_text::Sending;
 use view_timeline::Link;
 
 /// At most so many transitions are drawn.

@@ -1,2 +1,11 @@
+pub mod AnswerLemmas
 pub mod CountLemmas
+pub mod GoalLemmas
+pub mod GoalListLemmas
+pub mod LineLemmas
+pub mod MarkLemmas
+pub mod NameLemmas
+pub mod OrderLemmas
 pub mod PassLemmas
+pub mod RunLemmas
+pub mod SectionLemmas

@@ -1,1 +1,11 @@
+pub mod Answers
 pub mod Coverage
+pub mod Covered
+pub mod Goals
+pub mod Group
+pub mod Lcov
+pub mod Marks
+pub mod Plain
+pub mod Sections
+pub mod Source
+pub mod Stimuli

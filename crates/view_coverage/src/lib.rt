@@ -5,8 +5,11 @@
 #![tactic(auto)]
 
 mod counts;
+mod covered;
+mod goals;
+mod marks;
 mod point;
+mod sections;
 mod walk;
 
-pub use counts::Counts;
-pub use point::{Passage, Point};
+pub use covered::{Form, Run, coverage};

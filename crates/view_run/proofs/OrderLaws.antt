@@ -2,7 +2,7 @@
 use Rattle.std.proofs.Common.{ℕ, List, length, refl, arith}
 use Rattle.run_record.specs.Record.{RecordValue}
 use Rattle.run_record.specs.declared.record.Report.{Report}
-use Rattle.run_replay.specs.Finder.{IsOrderOf, IsPartOf, Job, job_with}
+use Rattle.view_run.specs.Finder.{IsOrderOf, IsPartOf, Job, job_with}
 use Rattle.sdl_script.specs.declared.script.ScriptLine.{ScriptLine}
 use Rattle.sdl_system.specs.System.{SystemValue}
 use Rattle.view_timeline.specs.Parts as parts

@@ -2,13 +2,13 @@
 use Rattle.std.specs.Prelude.{◌≡◌, ℕ, List, [], Option, None, Some}
 use Rattle.run_record.specs.Record.{RecordValue}
 use Rattle.run_record.specs.declared.record.Report.{Report}
-use Rattle.run_replay.specs.Finder.{IsOrderOf, IsPartOf, job_with}
+use Rattle.view_run.specs.Finder.{IsOrderOf, IsPartOf, job_with}
 use Rattle.sdl_script.specs.declared.script.ScriptLine.{ScriptLine}
 use Rattle.sdl_system.specs.System.{SystemValue}
 use Rattle.view_timeline.specs.Parts as parts
 use Rattle.view_timeline.specs.Parts.{IsInOrderOf, StopsAt}
-use Rattle.view_steps.specs.Lost.{lost_of}
-use Rattle.view_steps.specs.Sending.{SendingValue}
+use Rattle.view_text.specs.Lost.{lost_of}
+use Rattle.view_text.specs.Sending.{SendingValue}
 use Rattle.view_timeline.specs.declared.moves.Timeline.{Timeline}
 use Rattle.view_run.specs.declared.order_log.OrderLog.{OrderLog}
 use Rattle.view_run.specs.declared.order_log.OrderLog.TheVariants as log

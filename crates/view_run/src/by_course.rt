@@ -2,20 +2,20 @@
 
 ghost use Rattle.std.specs.Prelude.{◌≡◌, IfOk, map};
 ghost use Rattle.std.specs.List.{AllByRecursion};
-ghost use Rattle.run_replay.specs.Finder.{IsOrderOf, IsPartOf, job_with};
+ghost use Rattle.view_run.specs.Finder.{IsOrderOf, IsPartOf, job_with};
 ghost use Rattle.view_run.specs.Order.{IsToldInOrder, IsToldTo, lost_to};
-ghost use Rattle.view_steps.specs.Sending.{sending_value};
+ghost use Rattle.view_text.specs.Sending.{sending_value};
 ghost use Rattle.view_timeline.specs.Moves.{IsPart};
 ghost use Rattle.view_timeline.specs.Timeline.{AreBegun};
 
 use crate::order::Order;
+use crate::replay::{Found, find_order};
 use run_course::Course;
 use run_record::Report;
-use run_replay::{Found, find_order};
 use sdl_script::Script;
 use sdl_system::System;
 use std::alloc::{AllocError, Global};
-use view_steps::lost_signals;
+use view_text::lost_signals;
 use view_timeline::{Timeline, Untold, timeline_in};
 
 /// The one order of all of a run with workers, by what was kept of its course. It is a run, whatever the course says;

@@ -3,7 +3,7 @@
 ghost use Rattle.std.specs.Prelude.{◌≡◌, IfOk, map};
 ghost use Rattle.std.specs.List.{AllByRecursion};
 ghost use Rattle.view_run.specs.Order.{IsToldInTo, lost_to};
-ghost use Rattle.view_steps.specs.Sending.{sending_value};
+ghost use Rattle.view_text.specs.Sending.{sending_value};
 ghost use Rattle.view_timeline.specs.Moves.{IsPart};
 ghost use Rattle.view_timeline.specs.Timeline.{AreBegun};
 
@@ -12,7 +12,7 @@ use run_record::Report;
 use sdl_script::Script;
 use sdl_system::System;
 use std::alloc::{AllocError, Global};
-use view_steps::lost_signals;
+use view_text::lost_signals;
 use view_timeline::{Untold, timeline_in};
 
 /// The order in which the events are told of these instances, one after the other. It isn't known to its end if an event

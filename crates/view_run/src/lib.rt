@@ -11,7 +11,9 @@ mod by_log;
 mod by_tellers;
 mod order;
 mod order_log;
+mod replay;
 
 pub use by_log::order_by_log;
 pub use order::Order;
 pub use order_log::OrderLog;
+pub use replay::{Found, find_order};

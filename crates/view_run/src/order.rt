@@ -1,6 +1,6 @@
 //! The order of a run.
 
-use view_steps::Sending;
+use view_text::Sending;
 use view_timeline::Timeline;
 
 /// One order of a run, as far as it is known.

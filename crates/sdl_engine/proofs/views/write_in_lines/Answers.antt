@@ -1,7 +1,7 @@
 use Rattle.std.proofs.Common.{◌∙◌, ap, map}
 use Rattle.std.proofs.lemmas.Result.{err_from_is_err_and}
-use Rattle.view_lines.specs.LinesText.{lines_text}
-use Rattle.view_steps.specs.Sending.{sending_value}
+use Rattle.view_text.specs.LinesText.{lines_text}
+use Rattle.view_text.specs.Sending.{sending_value}
 use Rattle.sdl_engine.specs.declared.options.View.TheVariants as views
 use Rattle.sdl_engine.specs.Views.{signals_of}
 use Rattle.sdl_engine.proofs.AnswerLaws.{view_fails}

@@ -2,7 +2,7 @@ use Rattle.std.proofs.Common.{◌++◌, ◌∙◌, ap, append-nil, arith, length
 use Rattle.std.specs.String.{string_bytes}
 use Rattle.sdl_expected.specs.Outputs.{outputs_of}
 use Rattle.sdl_expected.proofs.OutputLemmas.{step_more}
-use Rattle.view_steps.specs.Step.{step_value}
+use Rattle.view_text.specs.Step.{step_value}
 use Rattle.sdl_expected.proofs.environment.outputs.Goals as goal
 
 pub loop-step-preserved : goal.loop-step-preserved

@@ -1,5 +1,5 @@
 use Rattle.std.proofs.Common.{refl, string_bytes}
-use Rattle.view_covered.specs.Covered.{IsCoverage}
+use Rattle.view_coverage.specs.Covered.{IsCoverage}
 use Rattle.sdl_views.specs.Covered.{SaysCovered}
 use Rattle.sdl_views.proofs.CoveredLaws.{if_ok, says_covered}
 use Rattle.sdl_views.proofs.covering.covered_text.Goals as goal

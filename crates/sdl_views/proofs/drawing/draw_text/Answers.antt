@@ -2,8 +2,8 @@ use Rattle.std.proofs.Common.{◌∙◌, ap, map, subst}
 use Rattle.std.proofs.lemmas.Result.{err_from_is_err_and}
 use Rattle.std.specs.Io.KnownBytes.{Appends}
 use Rattle.sdl_report.specs.Gathered.{BreaksOff}
-use Rattle.view_msc.specs.MscText.{msc_text}
-use Rattle.view_steps.specs.Sending.{sending_value}
+use Rattle.view_text.specs.MscText.{msc_text}
+use Rattle.view_text.specs.Sending.{sending_value}
 use Rattle.sdl_views.proofs.DrawnLaws.{text_drawn, text_fails}
 use Rattle.sdl_views.proofs.drawing.draw_text.Goals as goal
 

@@ -1,6 +1,6 @@
 use Rattle.std.proofs.Common.{subst, sym}
-use Rattle.run_replay.specs.Finder.{IsOrderOf, IsPartOf, job_with}
-use Rattle.run_replay.specs.Found.{IsFound}
+use Rattle.view_run.specs.Finder.{IsOrderOf, IsPartOf, job_with}
+use Rattle.view_run.specs.Found.{IsFound}
 use Rattle.view_run.proofs.by_course.order_by_course.Goals as goal
 
 pub told_order-requires : goal.told_order-requires

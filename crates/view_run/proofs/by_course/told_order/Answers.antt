@@ -1,5 +1,5 @@
 use Rattle.std.proofs.Common.{subst}
-use Rattle.run_replay.specs.Finder.{job_with}
+use Rattle.view_run.specs.Finder.{job_with}
 use Rattle.view_timeline.specs.Parts.{IsStuck, IsUntold}
 use Rattle.view_run.proofs.OrderLaws.{as_far, one_begun, parts_begun}
 use Rattle.view_run.proofs.by_course.told_order.Goals as goal

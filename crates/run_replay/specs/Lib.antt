@@ -1,3 +1,0 @@
-pub mod Finder
-pub mod Found
-pub mod Telling

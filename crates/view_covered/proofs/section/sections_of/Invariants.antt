@@ -1,7 +1,0 @@
-use Rattle.std.proofs.Common.{take}
-use Rattle.std.specs.List.{AllZip}
-use Rattle.view_covered.specs.Sections.{IsSection, sources_of}
-use Rattle.view_covered.proofs.section.sections_of.Given as goal
-
-abbrev pub invariant-loop-goals : goal.invariant-loop-goals
-invariant-loop-goals l = AllZip (IsSection (sources_of l.material)) (take l.goals-index l.goals-items) l.sections.items

@@ -1,3 +1,0 @@
-pub mod Answers
-pub mod Covered
-pub mod Sections

@@ -1,3 +1,0 @@
-pub mod GoalLemmas
-pub mod GoalListLemmas
-pub mod NameLemmas

@@ -1,2 +1,0 @@
-pub mod Goals
-pub mod Stimuli

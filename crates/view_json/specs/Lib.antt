@@ -1,2 +1,0 @@
-pub mod JsonText
-pub mod JsonValue

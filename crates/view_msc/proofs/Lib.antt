@@ -1,2 +1,0 @@
-mod Pushed
-mod Words

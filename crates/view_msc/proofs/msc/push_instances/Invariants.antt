@@ -1,9 +1,0 @@
-use Rattle.std.proofs.Common.{◌≡◌, ◌++◌, take}
-use Rattle.std.specs.List.{flat_map}
-use Rattle.std.specs.String.{string_bytes}
-use Rattle.view_msc.specs.MscText.{next_text}
-use Rattle.view_msc.proofs.msc.push_instances.Given as goal
-
-abbrev pub invariant-loop-record : goal.invariant-loop-record
-invariant-loop-record l =
-    string_bytes l.text ≡ string_bytes l.initial.text ++ flat_map (next_text l.system) (take l.record-index l.more)

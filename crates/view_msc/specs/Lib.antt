@@ -1,4 +1,0 @@
-pub mod EventText
-pub mod Keyword
-pub mod LostText
-pub mod MscText

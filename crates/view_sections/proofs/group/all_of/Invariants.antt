@@ -1,6 +1,0 @@
-use Rattle.std.proofs.Common.{◌≡◌, take}
-use Rattle.view_sections.specs.Group.{all_of}
-use Rattle.view_sections.proofs.group.all_of.Given as goal
-
-abbrev pub invariant-loop-section : goal.invariant-loop-section
-invariant-loop-section l = l.all ≡ all_of l.group (take l.section-index l.sections)

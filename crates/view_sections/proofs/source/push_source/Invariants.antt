@@ -1,8 +1,0 @@
-use Rattle.std.proofs.Common.{◌≡◌, ◌++◌}
-use Rattle.std.specs.List.{flat_map}
-use Rattle.std.specs.String.{string_bytes}
-use Rattle.view_sections.specs.Source.{shown}
-use Rattle.view_sections.proofs.source.push_source.Given as goal
-
-abbrev pub invariant-loop-letter : goal.invariant-loop-letter
-invariant-loop-letter l = string_bytes l.text ≡ string_bytes l.initial.text ++ flat_map shown l.yielded

@@ -1,4 +1,0 @@
-pub mod Group
-pub mod Lcov
-pub mod Plain
-pub mod Source

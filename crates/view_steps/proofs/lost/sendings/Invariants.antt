@@ -1,8 +1,0 @@
-use Rattle.view_steps.proofs.Sent.{AreSent}
-use Rattle.view_steps.specs.Walk.{all_steps}
-use Rattle.view_steps.proofs.lost.sendings.Given as goal
-
-abbrev pub invariant-loop-line : goal.invariant-loop-line
-invariant-loop-line l =
-    AreSent l.system l.report (all_steps l.report.records.items l.told) l.lines
-    l.line-index l.course l.sent.items
