@@ -7,8 +7,8 @@ use Rattle.sdl_engine.specs.declared.options.Outcome.{Outcome}
 use Rattle.sdl_engine.specs.declared.options.Outcome.TheVariants as outcome
 use Rattle.sdl_engine.specs.declared.options.TextFault.{TextFault}
 use Rattle.sdl_engine.specs.declared.run.Run.{Run}
-use Rattle.sdl_views.specs.Drawn.{IsDrawn}
-use Rattle.sdl_views.specs.declared.form.Form.{Form}
+use Rattle.sdl_command_line.specs.Drawn.{IsDrawn}
+use Rattle.sdl_command_line.specs.declared.views.form.Form.{Form}
 use Rattle.conformance.specs.declared.case.Answer.{Answer}
 use Rattle.conformance.specs.declared.case.Asked.TheVariants as asked
 use Rattle.conformance.specs.declared.case.Case.{Case}

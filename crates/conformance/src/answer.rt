@@ -5,10 +5,9 @@ ghost use Rattle.std.specs.Prelude.{◌≡◌};
 
 use crate::case::Answer;
 use sdl_engine::{
-    Names, Nobody, Notes, Options, Outcome, Source, TextFault, Threaded, run_and_note, run_text,
-    suspicions_of,
+    Names, Nobody, Notes, Options, Outcome, Source, TextFault, Texts, Threaded, run_and_note,
+    run_text, suspicions_of,
 };
-use sdl_input::Texts;
 use std::alloc::{AllocError, Global};
 use std::sync::Wait;
 use std::thread::Threads;

@@ -1,7 +1,7 @@
 //! What a case is.
 
+use sdl_command_line::Form;
 use sdl_engine::Options;
-use sdl_views::Form;
 
 /// The request to the program, on its command line.
 #[derive(Clone, Copy)]

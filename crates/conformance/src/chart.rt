@@ -5,8 +5,8 @@ ghost use Rattle.conformance.specs.Judgement.{IsChart, IsChartOf};
 
 use crate::answer::{noted_answer, silent_notes};
 use crate::case::Answer;
+use sdl_command_line::{Form, draw};
 use sdl_engine::{Options, Run};
-use sdl_views::{Form, draw};
 use std::alloc::{AllocError, Global};
 use std::sync::Wait;
 use std::thread::Threads;

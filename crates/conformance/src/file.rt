@@ -7,8 +7,8 @@ use crate::lines::{Line, Lines, lines_of};
 use crate::section::{CASE, Section, read_section};
 use crate::table::{is_row, read_row};
 use crate::words::{read_words, with_chart, with_view, with_workers};
+use sdl_command_line::Form;
 use sdl_engine::View;
-use sdl_views::Form;
 use std::alloc::Global;
 use std::collections::BTreeSet;
 

@@ -1,8 +1,8 @@
 //! The words of a command line.
 
 use crate::case::Asked;
+use sdl_command_line::Form;
 use sdl_engine::{Command, Options, View};
-use sdl_views::Form;
 use std::str::SplitWhitespace;
 
 /// Reads the words after the program's name.

@@ -1,6 +1,6 @@
 //! Sentences about a parenthesis after a word that takes none.
 
-use explain_lines::{Around, mark_of, name_of};
+use crate::lines::{Around, mark_of, name_of};
 use sdl_tree::Mark;
 
 /// Gives the sentence about a parenthesis that opens after a word, where a semicolon has to be.

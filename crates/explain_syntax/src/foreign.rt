@@ -2,10 +2,10 @@
 
 use crate::habit::SORT;
 use crate::keyword::keyword_advice;
+use crate::lines::{Advice, Around, mark_of, name_of};
 use crate::open::missing_sentence;
 use crate::wanted_mark::mark_sentence;
 use crate::wanted_name::name_sentence;
-use explain_lines::{Advice, Around, mark_of, name_of};
 use parse_cursor::{PlacedWord, Wanted, Word};
 use sdl_tree::Mark;
 use std::alloc::{AllocError, Global};

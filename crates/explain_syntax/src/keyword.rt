@@ -1,9 +1,9 @@
 //! The keyword that is meant by a word that is none.
 
 use crate::habit::habit_sentence;
+use crate::lines::{Advice, Around, Nearest, lowered, mark_of, name_of};
 use crate::misplaced::continues_list;
 use crate::wanted_mark::is_end_of_path;
-use explain_lines::{Advice, Around, Nearest, lowered, mark_of, name_of};
 use parse_cursor::Wanted;
 use sdl_tree::{Mark, keyword_of};
 use std::alloc::{AllocError, Global};

@@ -12,10 +12,12 @@ mod foreign;
 mod habit;
 mod keyword;
 mod left_out;
+mod lines;
 mod memory;
 mod misplaced;
 mod open;
 mod parse;
+mod rests;
 mod script_fault;
 mod script_line;
 mod script_receiver;
@@ -25,9 +27,15 @@ mod unended;
 mod wanted_mark;
 mod wanted_name;
 
+pub use lines::{
+    Advice, Around, Excerpt, Explanation, Nearest, Origin, Other, about_marked, earlier_place,
+    earlier_word, lowered, marked_word, opening_of, push_line_end, push_more, push_rows,
+    unclosed_before,
+};
 pub use memory::NO_MEMORY;
 pub use open::opening_sentence;
 pub use parse::parse_advice;
+pub use rests::{Rest, leave_out_line};
 pub use script_fault::LineFault;
 pub use script_line::line_fault;
 pub use script_words::{name_column, name_in, receiver_column, receiver_in, time_column};

@@ -1,7 +1,7 @@
 //! Sentences about words where something has to go on or to end, to which they don't belong.
 
+use crate::lines::{Around, is_number, mark_of, name_of};
 use crate::open::{ends_nothing, outside_sentence};
-use explain_lines::{Around, is_number, mark_of, name_of};
 use sdl_tree::Mark;
 
 /// Gives the sentence for a place where what a word ends has to go on, or that word has to stand.

@@ -1,6 +1,6 @@
 //! Sentences about what is open where it can't be, and about words that end or begin nothing there.
 
-use explain_lines::{Around, mark_of};
+use crate::lines::{Around, mark_of};
 use sdl_tree::Mark;
 
 /// Gives the sentence about what is still open at a place where this word has to end it. None if the end isn't known to

@@ -3,8 +3,8 @@
 use crate::byte::byte_sentence;
 use crate::foreign::{COMMENT, foreign_advice};
 use crate::left_out::left_out_sentence;
+use crate::lines::{Advice, Around, Excerpt, about_marked, mark_of};
 use crate::memory::NO_MEMORY;
-use explain_lines::{Advice, Around, Excerpt, about_marked, mark_of};
 use parse_cursor::Wanted;
 use sdl_lex::{LexError, Place};
 use sdl_parse::ParseError;

@@ -1,8 +1,8 @@
 //! Sentences for a place where a semicolon has to stand.
 
 use crate::call::call_sentence;
+use crate::lines::{Around, is_number, mark_of, name_of};
 use crate::wanted_name::MODE;
-use explain_lines::{Around, is_number, mark_of, name_of};
 use sdl_tree::Mark;
 
 /// Gives the sentence for a place where a semicolon has to stand.

@@ -1,9 +1,9 @@
 //! Sentences for a place where a keyword or a mark has to stand.
 
+use crate::lines::{Around, mark_of, name_of};
 use crate::misplaced::{end_sentence, start_sentence};
 use crate::unended::semicolon_sentence;
 use crate::wanted_name::SET;
-use explain_lines::{Around, mark_of, name_of};
 use sdl_tree::Mark;
 
 /// Gives the sentence for a place where a mark has to stand.

@@ -1,6 +1,6 @@
 //! Sentences for a place where a name has to stand.
 
-use explain_lines::{Around, is_number, mark_of};
+use crate::lines::{Around, is_number, mark_of};
 use sdl_tree::Mark;
 
 /// Gives the sentence for a place where a name has to stand: first what is said of it after a keyword.

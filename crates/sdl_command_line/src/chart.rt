@@ -1,9 +1,9 @@
 //! The chart that a command line asks for.
 
 use crate::mistake::Mistake;
+use crate::views::Form;
 use clap::ArgMatches;
 use port_values::Ticks;
-use sdl_views::Form;
 use std::alloc::{AllocError, Global};
 use view_chart::{Selection, Wanted};
 

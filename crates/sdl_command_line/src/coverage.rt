@@ -1,8 +1,8 @@
 //! What a command line asks to be told of what a run covered.
 
 use crate::mistake::Mistake;
+use crate::views::coverage_form;
 use clap::ArgMatches;
-use sdl_views::coverage_form;
 use std::alloc::Global;
 use view_coverage::Form;
 

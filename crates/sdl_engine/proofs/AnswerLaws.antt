@@ -1,10 +1,10 @@
 -- What the calls of a command give, put together into what is said of the input.
 use Rattle.std.proofs.Common.{◌≡◌, ap, sym, subst, refl, inl, inr, ℕ, List, Option, None, Some, Bool, true, false, Result, Ok, Err, IfOk, IfErr, OnOk}
 use Rattle.std.specs.Io.KnownBytes.{Appends}
-use Rattle.sdl_input.specs.Input.{IsRead}
-use Rattle.sdl_input.specs.declared.input.Input.{Input}
-use Rattle.sdl_input.specs.declared.input.Input.TheVariants.{Held, TooLong}
-use Rattle.sdl_input.specs.declared.texts.Texts.{Texts}
+use Rattle.sdl_engine.specs.Input.{IsRead}
+use Rattle.sdl_engine.specs.declared.input.Input.{Input}
+use Rattle.sdl_engine.specs.declared.input.Input.TheVariants.{Held, TooLong}
+use Rattle.sdl_engine.specs.declared.texts.Texts.{Texts}
 use Rattle.sdl_report.specs.Gathered as gathered
 use Rattle.sdl_report.specs.declared.write_whole.WriteFault.{WriteFault}
 use Rattle.sdl_report.specs.declared.write_whole.WriteFault.TheVariants as written

@@ -1,7 +1,7 @@
 -- Whether an instance of a run failed, by the notes of it.
 use Rattle.std.proofs.Common.{◌≡◌, ℕ, Bool, true, false, List, Option, None, Some, Result, Ok, Err, IfOk, IfSome, OnOk, inl, inr, subst, sym}
-use Rattle.failure_replay.specs.Ending.{has_failed}
-use Rattle.sdl_input.specs.declared.input.Input.{Input}
+use Rattle.sdl_failures.specs.Ending.{has_failed}
+use Rattle.sdl_engine.specs.declared.input.Input.{Input}
 use Rattle.sdl_engine.specs.Answer.{IsRunOfInput, TellsRun, outcome_by, outcome_of}
 use Rattle.sdl_engine.specs.Kept.{SaysFailed, TellsNoRun}
 use Rattle.sdl_engine.specs.declared.options.Command.TheVariants as command

@@ -1,6 +1,6 @@
 -- What holds of a run that is kept.
 use Rattle.std.proofs.Common.{◌≡◌, ℕ, Bool, true, false, List, Option, None, Some, Result, Ok, Err, IfOk, IfSome, OnOk, inl, refl, subst, sym}
-use Rattle.sdl_input.specs.declared.input.Input.{Input}
+use Rattle.sdl_engine.specs.declared.input.Input.{Input}
 use Rattle.sdl_engine.specs.Answer.{IsRunOfInput, TellsRun, outcome_by}
 use Rattle.sdl_engine.specs.Kept.{IsToldRun, KeepsRun}
 use Rattle.sdl_engine.specs.declared.options.Command.TheVariants as command

@@ -5,11 +5,11 @@ use Rattle.sdl_build.specs.Built.{IsBuilt}
 use Rattle.sdl_build.specs.Outcome.{IsRefusedAs}
 use Rattle.sdl_build.specs.declared.error.BuildError.{BuildError}
 use Rattle.serial_order.specs.Report.{IsSerialReport}
-use Rattle.sdl_input.specs.Input.{IsRead}
-use Rattle.sdl_input.specs.Parts.{HasParts}
-use Rattle.sdl_input.specs.declared.input.Input.{Input}
-use Rattle.sdl_input.specs.declared.input.Input.TheVariants.{Held, TooLong}
-use Rattle.sdl_input.specs.declared.texts.Texts.{Texts}
+use Rattle.sdl_engine.specs.Input.{IsRead}
+use Rattle.sdl_engine.specs.Parts.{HasParts}
+use Rattle.sdl_engine.specs.declared.input.Input.{Input}
+use Rattle.sdl_engine.specs.declared.input.Input.TheVariants.{Held, TooLong}
+use Rattle.sdl_engine.specs.declared.texts.Texts.{Texts}
 use Rattle.sdl_lex.specs.declared.error.LexError.TheVariants as lex
 use Rattle.sdl_parse.specs.Parser.{SpellsText}
 use Rattle.sdl_parse.specs.Parser as parser

@@ -1,11 +1,11 @@
 -- What is kept of a run for those who draw it, or tell what it covered.
 use Rattle.std.specs.Prelude.{◌≡◌, ◌⊎◌, ℕ, Bool, true, false, List, Option, None, Some, IfSome}
-use Rattle.failure_replay.specs.Ending.{has_failed}
+use Rattle.sdl_failures.specs.Ending.{has_failed}
 use Rattle.run_semantics.specs.Behaves.{AreBehaviours}
-use Rattle.sdl_input.specs.Input.{IsRead}
-use Rattle.sdl_input.specs.declared.input.Input.{Input}
-use Rattle.sdl_input.specs.declared.input.Input.TheVariants.{Held, TooLong}
-use Rattle.sdl_input.specs.declared.texts.Texts.{Texts}
+use Rattle.sdl_engine.specs.Input.{IsRead}
+use Rattle.sdl_engine.specs.declared.input.Input.{Input}
+use Rattle.sdl_engine.specs.declared.input.Input.TheVariants.{Held, TooLong}
+use Rattle.sdl_engine.specs.declared.texts.Texts.{Texts}
 use Rattle.sdl_system.specs.Behaviour.{Behaviour}
 use Rattle.sdl_engine.specs.Answer.{IsRunOfInput, TellsRun, outcome_by}
 use Rattle.sdl_engine.specs.Log.{IsLogBy}

@@ -1,13 +1,14 @@
 //! The explanation of a refusal, and the failures of a run, for a human.
 
+use crate::input::Input;
 use crate::notes::Names;
 use crate::pipeline::check_input;
 use crate::refusal::Refusal;
 use crate::run::Run;
-use explain_lines::Origin;
+use crate::texts::Texts;
+use explain_syntax::Origin;
 use sdl_explain::{explain_parse, faults_text, lines_text};
 use sdl_failures::{Told, failures_text};
-use sdl_input::{Input, Texts};
 use std::alloc::{AllocError, Global};
 
 /// The explanation of an input, empty if nothing is wrong with it.

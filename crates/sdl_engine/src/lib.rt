@@ -1,3 +1,9 @@
+//! What comes in: a text and the script that goes with it, read whole, and parted into a specification and a script.
+//!
+//! `read_source` holds all that a `Source` has, up to a bound, or tells that it has more. `read_input` does so for a
+//! text alone. `Texts::parts` gives the two parts of what is held: the specification ends before the first line that is
+//! exactly `%script`, and the script follows that line. A script of its own takes the place of the one that follows.
+//!
 //! The whole tool over any reader and writer: `run_text` reads a specification with its script, and writes the
 //! canonical text, a run, or the one line that refuses the text. A run is told by its report, or in its order, as lines
 //! or as JSON. `run_and_note` does the same for a text and a script of its own, and tells a human more: why a text is
@@ -12,6 +18,9 @@
 
 mod answer;
 mod explained;
+mod fault;
+mod input;
+mod line;
 mod notes;
 mod options;
 mod order;
@@ -22,7 +31,9 @@ mod refusal_text;
 mod run;
 mod runner;
 mod serial;
+mod source;
 mod text;
+mod texts;
 mod threaded;
 mod views;
 mod warned;
@@ -34,10 +45,11 @@ pub use refusal::Refusal;
 pub use refusal_text::{fixed_line, refusal_line};
 pub use run::Run;
 pub use runner::Runner;
-pub use sdl_input::Source;
 pub use serial::Serial;
 pub use serial_run::{Listener, Nobody};
+pub use source::Source;
 pub use text::{run_and_note, run_text};
+pub use texts::Texts;
 pub use threaded::Threaded;
 pub use view_run::Order;
 pub use warned::suspicions_of;

@@ -3,18 +3,20 @@
 
 ghost use Rattle.std.specs.Prelude.{◌≡◌, ◌≢◌, None, Some, false, true};
 ghost use Rattle.std.specs.Io.KnownBytes.{Keeps};
-ghost use Rattle.failure_replay.specs.Ending.{has_failed};
+ghost use Rattle.sdl_failures.specs.Ending.{has_failed};
 ghost use Rattle.sdl_engine.specs.Kept.{TellsNone, texts_with};
 
 use crate::explained::{explanation_of, failures_of};
+use crate::input::Input;
 use crate::options::{Outcome, TextFault};
 use crate::run::Run;
-use failure_replay::has_failed;
+use crate::texts::Texts;
 use run_record::{Entry, Report};
-use sdl_input::{Input, Texts};
+use sdl_failures::has_failed;
 use sdl_report::write_text;
 use std::alloc::{AllocError, Global};
-use std::io::{self, Empty, Write};
+use std::io;
+use std::io::{Empty, Write};
 
 /// The files of an input, as explanations name them.
 #[derive(Clone, Copy)]

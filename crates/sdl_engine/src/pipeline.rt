@@ -6,12 +6,13 @@ ghost use Rattle.sdl_tree.specs.Views.{tree_value};
 ghost use Rattle.sdl_engine.specs.Answer.{Allows, AllowsOf, IsAccepted, IsRunOf, IsRunOfInput, IsTextRefused, Prints, PrintsInput, workers_by};
 ghost use Rattle.sdl_engine.specs.Kept.{IsLogged};
 
+use crate::input::Input;
 use crate::options::{Command, Options};
 use crate::refusal::Refusal;
 use crate::run::Run;
 use crate::runner::{Ran, Runner};
+use crate::texts::Texts;
 use sdl_build::build;
-use sdl_input::{Input, Texts};
 use sdl_lex::LexError;
 use sdl_parse::{ParseError, parse};
 use sdl_print::print;

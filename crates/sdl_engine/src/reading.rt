@@ -1,10 +1,12 @@
 //! An input that is read.
 
 ghost use Rattle.std.specs.Prelude.{◌≡◌, ◌⊎◌, IfOk, IfErr, None, option_map};
-ghost use Rattle.sdl_input.specs.Input.{IsRead};
+ghost use Rattle.sdl_engine.specs.Input.{IsRead};
 
+use crate::fault::ReadFault;
+use crate::input::Input;
 use crate::options::TextFault;
-use sdl_input::{Input, ReadFault, Source};
+use crate::source::Source;
 use std::alloc::Global;
 use std::io::Read;
 
@@ -13,7 +15,7 @@ pub fn read_input<R: Read>(alloc: Global, reader: &mut R) -> Result<Input, TextF
     ensures ok { IfOk result (IsRead (R.remaining reader.old) None) }
     ensures err { IfErr result (λ fault. (fault ≡ TextFault.Read) ⊎ (fault ≡ TextFault.Memory)) }
 {
-    match sdl_input::read_input(alloc, reader) {
+    match crate::input::read_input(alloc, reader) {
         Ok(input) => Ok(input),
         Err(ReadFault::Read) => Err(TextFault::Read),
         Err(ReadFault::Memory) => Err(TextFault::Memory),
@@ -28,7 +30,7 @@ pub fn read_source<R: Read, S: Read>(
     ensures ok { IfOk result (IsRead (R.remaining source.old.text) (option_map S.remaining source.old.script)) }
     ensures err { IfErr result (λ fault. (fault ≡ TextFault.Read) ⊎ (fault ≡ TextFault.Memory)) }
 {
-    match sdl_input::read_source(alloc, source) {
+    match crate::input::read_source(alloc, source) {
         Ok(input) => Ok(input),
         Err(ReadFault::Read) => Err(TextFault::Read),
         Err(ReadFault::Memory) => Err(TextFault::Memory),

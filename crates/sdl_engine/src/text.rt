@@ -2,17 +2,18 @@
 
 ghost use Rattle.std.specs.Prelude.{◌≡◌, ◌≢◌, Bool, IfOk, IfErr, IfSome, None, false, option_map};
 ghost use Rattle.std.specs.Io.KnownBytes.{Keeps};
-ghost use Rattle.failure_replay.specs.Ending.{has_failed};
+ghost use Rattle.sdl_failures.specs.Ending.{has_failed};
 ghost use Rattle.sdl_engine.specs.Answer.{Faulted, Fails, Tells, TellsNoOrder, Written, carried, workers_by};
 ghost use Rattle.sdl_engine.specs.Kept.{IsKept, IsLogged, KeepsRun, KnowsFailed, SaysFailed, TellsNone};
 
 use crate::answer::{canonical, refuse, report};
+use crate::input::Input;
 use crate::notes::{Notes, keep_run, keep_texts, note_failures, note_refusal, silent_notes};
 use crate::options::{Command, Options, Outcome, TextFault, View};
 use crate::pipeline::{check_input, run_input};
 use crate::reading::{read_input, read_source};
 use crate::runner::Runner;
-use sdl_input::{Input, Source};
+use crate::source::Source;
 use serial_run::{Listener, Nobody};
 use std::alloc::Global;
 use std::io::{Read, Write};

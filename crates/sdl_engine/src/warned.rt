@@ -1,9 +1,9 @@
 //! What is suspicious in a specification, for a human.
 
 use crate::notes::Names;
-use explain_lines::Origin;
+use crate::texts::Texts;
+use explain_syntax::Origin;
 use sdl_explain::{warnings_of, warnings_text};
-use sdl_input::Texts;
 use std::alloc::{AllocError, Global};
 
 /// What is suspicious in the specification of an input that is accepted, empty if nothing is.

@@ -5,10 +5,10 @@ use Rattle.std.proofs.lemmas.Bool.{cond_both, false≢true}
 use Rattle.std.proofs.lemmas.List.{length-take}
 use Rattle.std.proofs.lemmas.List.Elements.{All-append, All-cons, All-nil, All-push, All-same, All-take, All-weaker}
 use Rattle.build_names.specs.declared.faults.fault.Rule.{Rule}
-use Rattle.explain_rests.proofs.RestLemmas.{filled_rest, line_rest, on, whole}
-use Rattle.explain_rests.specs.Gap.{LeavesOut, lacks}
-use Rattle.explain_rests.specs.Rest.{IsRestOf}
-use Rattle.explain_rests.specs.declared.rest.Rest.{Rest}
+use Rattle.explain_syntax.proofs.RestLemmas.{filled_rest, line_rest, on, whole}
+use Rattle.explain_syntax.specs.Gap.{LeavesOut, lacks}
+use Rattle.explain_syntax.specs.Rest.{IsRestOf}
+use Rattle.explain_syntax.specs.declared.rests.rest.Rest.{Rest}
 use Rattle.sdl_build.specs.declared.error.BuildError.{BuildError}
 use Rattle.sdl_build.specs.declared.error.BuildError.TheVariants as error
 use Rattle.sdl_explain.specs.Others.{AreFound, AreLinesBeside, AreLinesFound, AreOtherLines, AreOthers, Ends, EndsLines, IsFaultBeside, IsFaultOf, IsFoundPast, IsLineBeside, IsLineOf, IsRightBeside, IsScriptBeside, IsScriptOf, beside_fault, beside_none, beside_system, is_lost, is_often, is_right, is_still, left_out, lines_are_often, lines_are_right, no_place, one_more, one_more_line, only_first, only_first_line, unless_lacking}

@@ -4,10 +4,10 @@ use Rattle.std.specs.String.{string_bytes}
 use Rattle.std.proofs.lemmas.Bool.{cond-false, cond-true, cond_both}
 use Rattle.std.proofs.lemmas.List.{length-append, length-take, length_push, take-append-le}
 use Rattle.build_names.specs.declared.faults.fault.Rule.{Rule}
-use Rattle.explain_rests.specs.Gap.{lacks}
-use Rattle.explain_rests.specs.Line.{IsWithoutLine}
-use Rattle.explain_rests.specs.Words.{is_same_place}
-use Rattle.explain_rests.specs.declared.rest.Rest.{Rest}
+use Rattle.explain_syntax.specs.Gap.{lacks}
+use Rattle.explain_syntax.specs.Line.{IsWithoutLine}
+use Rattle.explain_syntax.specs.Words.{is_same_place}
+use Rattle.explain_syntax.specs.declared.rests.rest.Rest.{Rest}
 use Rattle.sdl_build.specs.declared.error.BuildError.{BuildError}
 use Rattle.sdl_build.specs.declared.error.BuildError.TheVariants as error
 use Rattle.sdl_explain.specs.Others.{AreFound, AreLinesFound, AreOtherLines, AreOthers, Ends, EndsLines, IsFoundPast, IsRefusedWith, TellsFirst, is_lost, is_often, is_right, is_still, lines_are_often, lines_are_right, most_turns, no_place, one_more, one_more_line, only_first, only_first_line, unless_lacking}

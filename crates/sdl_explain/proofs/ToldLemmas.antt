@@ -1,10 +1,10 @@
 -- Messages one after the other.
 use Rattle.std.proofs.Common.{◌≡◌, ◌<◌, ◌≤◌, ◌+◌, ℕ, List, [], ◌∷◌, ◌++◌, ap, get_or, length, subst, sym, take, take_all, ◌∙◌}
 use Rattle.std.proofs.lemmas.List.{take_more}
-use Rattle.explain_lines.specs.Explanation.{explanation_text}
+use Rattle.explain_syntax.specs.Explanation.{explanation_text}
 use Rattle.sdl_explain.specs.Told.{AreTold, nothing, one_more}
-use Rattle.explain_lines.specs.declared.explanation.Explanation.{Explanation}
-use Rattle.explain_lines.specs.declared.origin.Origin.{Origin}
+use Rattle.explain_syntax.specs.declared.lines.explanation.Explanation.{Explanation}
+use Rattle.explain_syntax.specs.declared.lines.origin.Origin.{Origin}
 
 module _ (X : Type 0) (Tells : X → Explanation → Type 0) (origin : Origin) (things : List X) where
   abbrev Told : List X → List ℕ → Type 0

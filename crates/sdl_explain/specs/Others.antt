@@ -2,11 +2,11 @@
 use Rattle.std.specs.Prelude.{◌≡◌, ◌≢◌, ℕ, ◌+◌, ◌-◌, ◌/◌, max, min, Bool, true, false, List, [], ◌∷◌, ◌++◌, None, Some, length, take, if◌then◌else◌}
 use Rattle.std.specs.String.{string_bytes}
 use Rattle.build_names.specs.declared.faults.fault.Rule.{Rule}
-use Rattle.explain_rests.specs.Gap.{LeavesAll, LeavesOut, lacks}
-use Rattle.explain_rests.specs.Line.{IsWithoutLine}
-use Rattle.explain_rests.specs.Rest.{IsRestOf}
-use Rattle.explain_rests.specs.Words.{is_same_place}
-use Rattle.explain_rests.specs.declared.rest.Rest.{Rest}
+use Rattle.explain_syntax.specs.Gap.{LeavesAll, LeavesOut, lacks}
+use Rattle.explain_syntax.specs.Line.{IsWithoutLine}
+use Rattle.explain_syntax.specs.Rest.{IsRestOf}
+use Rattle.explain_syntax.specs.Words.{is_same_place}
+use Rattle.explain_syntax.specs.declared.rests.rest.Rest.{Rest}
 use Rattle.sdl_build.specs.Built.{IsBuilt}
 use Rattle.sdl_build.specs.Outcome.{IsRefusedAs}
 use Rattle.sdl_build.specs.declared.error.BuildError.{BuildError}

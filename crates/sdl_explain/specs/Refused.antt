@@ -11,10 +11,10 @@ use Rattle.sdl_parse.specs.declared.error.ParseError.TheVariants as parse
 use Rattle.parse_cursor.specs.declared.fault.Wanted.TheVariants as wants
 use Rattle.sdl_script.specs.declared.script.ScriptError.{ScriptError}
 use Rattle.sdl_script.specs.declared.script.ScriptError.TheVariants as script
-use Rattle.explain_lines.specs.Earlier.{IsEarlier, StandsBefore}
-use Rattle.explain_lines.specs.Excerpt.{IsExcerpt, IsNowhere}
-use Rattle.explain_lines.specs.declared.excerpt.Excerpt.{Excerpt}
-use Rattle.explain_lines.specs.declared.explanation.Other.{Other}
+use Rattle.explain_syntax.specs.Earlier.{IsEarlier, StandsBefore}
+use Rattle.explain_syntax.specs.Excerpt.{IsExcerpt, IsNowhere}
+use Rattle.explain_syntax.specs.declared.lines.excerpt.Excerpt.{Excerpt}
+use Rattle.explain_syntax.specs.declared.lines.explanation.Other.{Other}
 
 -- ---- the line of the refusal
 

@@ -1,12 +1,12 @@
 -- Messages one after the other.
 use Rattle.std.specs.Prelude.{◌≡◌, ℕ, ◌≤◌, All, IfSome, List, [], ◌∷◌, ◌++◌, None, length}
 use Rattle.sdl_build.specs.declared.error.BuildError.{BuildError}
-use Rattle.explain_lines.specs.Explanation.{explanation_text}
-use Rattle.explain_lines.specs.More.{more_text}
+use Rattle.explain_syntax.specs.Explanation.{explanation_text}
+use Rattle.explain_syntax.specs.More.{more_text}
 use Rattle.sdl_explain.specs.Others.{AreLinesBeside, AreOthers, IsFaultBeside, IsLineBeside}
 use Rattle.sdl_explain.specs.Refused.{IsShown, IsShownLine, Repeats, build_place, repeated_by, script_line}
-use Rattle.explain_lines.specs.declared.explanation.Explanation.{Explanation}
-use Rattle.explain_lines.specs.declared.origin.Origin.{Origin}
+use Rattle.explain_syntax.specs.declared.lines.explanation.Explanation.{Explanation}
+use Rattle.explain_syntax.specs.declared.lines.origin.Origin.{Origin}
 use Rattle.sdl_explain.specs.declared.others.Others.{Others}
 use Rattle.sdl_script.specs.declared.script.ScriptError.{ScriptError}
 

@@ -2,12 +2,12 @@
 use Rattle.std.specs.Prelude.{◌≡◌, ◌⊎◌, ℕ, ◌-◌, List, [], ◌++◌, None, Some, true, length, map, take}
 use Rattle.parse_cursor.specs.PlacedWord.{word_of_placed}
 use Rattle.parse_cursor.specs.declared.word.PlacedWord.{PlacedWord}
-use Rattle.explain_lines.specs.More.{more_text}
+use Rattle.explain_syntax.specs.More.{more_text}
 use Rattle.sdl_explain.specs.Others.{IsNone}
 use Rattle.sdl_explain.specs.Refused.{IsShown}
 use Rattle.sdl_explain.specs.Told.{AreTold}
-use Rattle.explain_lines.specs.declared.explanation.Explanation.{Explanation}
-use Rattle.explain_lines.specs.declared.origin.Origin.{Origin}
+use Rattle.explain_syntax.specs.declared.lines.explanation.Explanation.{Explanation}
+use Rattle.explain_syntax.specs.declared.lines.origin.Origin.{Origin}
 use Rattle.sdl_lex.specs.Part.{Lexes}
 use Rattle.sdl_lex.specs.declared.token.Token.{Token}
 use Rattle.sdl_parse.specs.Parser.{SpellsText}

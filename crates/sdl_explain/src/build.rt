@@ -2,15 +2,16 @@
 
 ghost use Rattle.std.specs.Prelude.{◌≡◌, IfOk, IfSome};
 ghost use Rattle.std.specs.String.{string_bytes};
-ghost use Rattle.explain_lines.specs.Earlier.{IsEarlier};
+ghost use Rattle.explain_syntax.specs.Earlier.{IsEarlier};
 ghost use Rattle.sdl_explain.specs.Refused.{IsShown, Repeats, build_place, repeated_by};
 
+use crate::advice::wanted_advice;
+use crate::definition::first_definition;
+use crate::mention::first_mention;
 use crate::sentence::build_advice;
 use crate::shown::shown_at;
 use build_names::Rule;
-use explain_lines::{Advice, Explanation, Other, earlier_word};
-use explain_sites::{first_definition, first_mention};
-use sdl_advice::wanted_advice;
+use explain_syntax::{Advice, Explanation, Other, earlier_word};
 use sdl_build::BuildError;
 use sdl_lex::Place;
 use sdl_parse::parse;

@@ -1,7 +1,7 @@
 //! Faults beside the one that is told: those that don't follow from it.
 
 ghost use Rattle.std.specs.Prelude.{◌≡◌, ◌≤◌, ◌<◌, ◌+◌, ◌^◌, ◌++◌, [], ◌∷◌, All, IfOk, IsTrue, List, OnOk, false, length};
-ghost use Rattle.explain_rests.specs.Words.{is_same_place};
+ghost use Rattle.explain_syntax.specs.Words.{is_same_place};
 ghost use Rattle.sdl_build.specs.declared.error.BuildError.{BuildError};
 ghost use Rattle.sdl_build.specs.declared.error.BuildError.TheVariants as error;
 ghost use Rattle.sdl_explain.specs.Others.{AreLinesBeside, AreOtherLines, AreOthers, IsFaultBeside, IsFound, IsFoundPast, IsLineBeside, IsRightBeside, IsScriptBeside, TellsFirst, most_turns, unless_lacking};
@@ -9,7 +9,7 @@ ghost use Rattle.sdl_explain.specs.Others.{AreLinesBeside, AreOtherLines, AreOth
 use crate::refused::is_lack;
 use crate::script::script_line;
 use build_names::Rule;
-use explain_rests::{Rest, leave_out_line};
+use explain_syntax::{Rest, leave_out_line};
 use sdl_build::{BuildError, build};
 use sdl_lex::Place;
 use sdl_parse::parse;

@@ -1,14 +1,14 @@
 //! The explanation of a text that is no specification.
 
 ghost use Rattle.std.specs.Prelude.{◌≡◌, IfOk, IfSome};
-ghost use Rattle.explain_lines.specs.Earlier.{IsEarlier, StandsBefore};
+ghost use Rattle.explain_syntax.specs.Earlier.{IsEarlier, StandsBefore};
 ghost use Rattle.sdl_explain.specs.Refused.{IsShown, PrecedesFault, lex_place, parse_place};
 
 use crate::shown::shown_at;
-use explain_lines::{
-    Around, Explanation, Other, earlier_place, earlier_word, opening_of, unclosed_before,
+use explain_syntax::{
+    Around, Explanation, Other, earlier_place, earlier_word, opening_of, opening_sentence,
+    parse_advice, unclosed_before,
 };
-use explain_syntax::{opening_sentence, parse_advice};
 use parse_cursor::Wanted;
 use sdl_lex::{LexError, Place};
 use sdl_parse::ParseError;

@@ -3,10 +3,11 @@
 ghost use Rattle.std.specs.Prelude.{◌≡◌, None, IfOk};
 ghost use Rattle.sdl_explain.specs.Refused.{IsShownLine, script_line};
 
+use crate::advice::has_signal;
 use crate::sentence::script_advice;
-use explain_lines::{Excerpt, Explanation};
-use explain_syntax::{line_fault, name_column, name_in, receiver_column, time_column};
-use sdl_advice::has_signal;
+use explain_syntax::{
+    Excerpt, Explanation, line_fault, name_column, name_in, receiver_column, time_column,
+};
 use sdl_lex::Place;
 use sdl_parse::parse;
 use sdl_script::ScriptError;

@@ -2,7 +2,7 @@
 
 ghost use Rattle.sdl_explain.specs.Refused.{IsShown};
 
-use explain_lines::Excerpt;
+use explain_syntax::Excerpt;
 use sdl_lex::Place;
 
 /// The line of a place, if there is one.

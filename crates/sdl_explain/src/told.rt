@@ -8,7 +8,7 @@ ghost use Rattle.sdl_script.specs.declared.script.ScriptError.{ScriptError};
 use crate::build::explain_build;
 use crate::others::{other_faults, other_lines};
 use crate::script::explain_script;
-use explain_lines::{Origin, push_more};
+use explain_syntax::{Origin, push_more};
 use sdl_build::BuildError;
 use sdl_script::ScriptError;
 use std::alloc::{AllocError, Global};

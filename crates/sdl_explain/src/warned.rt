@@ -10,7 +10,7 @@ ghost use Rattle.sdl_tree.specs.Views.{tree_value};
 use crate::refused::is_lack;
 use crate::sentence::warning_sentence;
 use crate::shown::shown_at;
-use explain_lines::{Advice, Explanation, Origin, marked_word, push_more};
+use explain_syntax::{Advice, Explanation, Origin, marked_word, push_more};
 use parse_cursor::placed_words;
 use sdl_lex::lex;
 use sdl_parse::parse;

@@ -1,1 +1,13 @@
+pub mod BeginLemmas
+pub mod CameLemmas
+pub mod CauseLemmas
+pub mod ConditionLemmas
+pub mod CreateLemmas
+pub mod EndingLemmas
+pub mod FollowLemmas
+pub mod GoneLemmas
+pub mod GotLemmas
+pub mod PartLemmas
 pub mod ReadLemmas
+pub mod ReceivedLemmas
+pub mod ToldLemmas

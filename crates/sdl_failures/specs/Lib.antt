@@ -1,1 +1,11 @@
+pub mod Came
+pub mod Ending
+pub mod Fails
+pub mod Known
+pub mod Part
 pub mod Reasons
+pub mod Received
+pub mod Replay
+pub mod Sites
+pub mod Stands
+pub mod Told

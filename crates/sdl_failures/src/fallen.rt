@@ -1,6 +1,6 @@
 //! The instances that failed, in the order of time.
 
-use failure_replay::failure_of;
+use crate::replayed::failure_of;
 use run_record::{Entry, Record};
 use std::alloc::{AllocError, Global};
 use view_timeline::Cursor;

@@ -2,7 +2,7 @@
 
 ghost use Rattle.std.specs.Prelude.{◌≡◌};
 
-use failure_replay::Known;
+use crate::replayed::Known;
 use port_inbox::Alone;
 use port_values::{SignalId, Ticks, Value};
 use run_evaluation::{Identity, Knowledge, evaluate, sorts_of};

@@ -5,11 +5,11 @@ ghost use Rattle.run_semantics.specs.Fails.{later};
 ghost use Rattle.sdl_failures.specs.Reasons.{IsSo};
 
 use crate::blame::{blame, blame_at, blame_values};
+use crate::located::Site;
 use crate::operands::Scene;
 use crate::place::{action_place, end_place, place_of};
 use crate::reason::{Blame, Reason};
-use failure_place::Site;
-use failure_replay::later;
+use crate::replayed::later;
 use port_values::Ticks;
 use run_record::Failure;
 use sdl_interp::sort_of;

@@ -1,13 +1,13 @@
 //! A failure with its place in the text.
 
 use crate::blame::blame;
+use crate::located::{condition_at, definition_of, input_of, site_of};
 use crate::operands::Scene;
 use crate::place::place_of;
 use crate::reason::{Blame, Reason};
+use crate::replayed::{Failing, Halt, Misfit};
 use crate::sentence::{answers_text, failure_text, reason_text};
 use crate::statement::{site_place, statement_blame};
-use failure_place::{condition_at, definition_of, input_of, site_of};
-use failure_replay::{Failing, Halt, Misfit};
 use port_values::SignalId;
 use sdl_lex::Place;
 use sdl_system::{ConditionId, NodeId, Process, StateId, Statement, System};

@@ -1,10 +1,10 @@
 //! The text that tells the failures of a run.
 
 use crate::fallen::{Fallen, fallen_of};
+use crate::replayed::{failure_of, find_failure};
 use crate::sentence::failure_text;
 use crate::stop::stop_of;
-use explain_lines::{Advice, Excerpt, Explanation, Origin};
-use failure_replay::{failure_of, find_failure};
+use explain_syntax::{Advice, Excerpt, Explanation, Origin};
 use run_record::{Record, Report};
 use sdl_system::System;
 use sdl_tree::Tree;

@@ -2,8 +2,7 @@
 
 use crate::failure::Failure;
 use crate::paper::Paper;
-use sdl_command_line::CoverageFile;
-use sdl_views::{ToldRun, cover};
+use sdl_command_line::{CoverageFile, ToldRun, cover};
 
 /// Writes what a run covered into the file that is named.
 pub fn cover_file(

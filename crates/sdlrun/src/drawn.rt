@@ -2,9 +2,8 @@
 
 use crate::failure::Failure;
 use crate::paper::Paper;
-use sdl_command_line::ChartFile;
+use sdl_command_line::{ChartFile, draw, nobody};
 use sdl_engine::Run;
-use sdl_views::{draw, nobody};
 use std::alloc::{AllocError, Global};
 use view_chart::Wanted;
 

@@ -2,11 +2,12 @@
 
 use crate::failure::Failure;
 use crate::paper::Paper;
-use sdl_command_line::{Expectation, Part, Task};
+use sdl_command_line::{
+    Difference, Expectation, Part, Sent, Task, by_sender, difference_text, first_difference,
+    lines_of, sent_signals,
+};
 use sdl_engine::{Run, TextFault};
-use sdl_expected::{Difference, by_sender, difference_text, first_difference, lines_of};
 use sdl_report::write_text;
-use sdl_views::{Sent, sent_signals};
 use std::alloc::{AllocError, Global};
 use std::fs;
 use std::io::Write;

@@ -1,9 +1,10 @@
 //! A file that is written of a run.
 
 use crate::failure::Failure;
+use sdl_command_line::OutputFile;
 use sdl_engine::TextFault;
-use sdl_views::OutputFile;
-use std::io::{self, Write};
+use std::io;
+use std::io::Write;
 
 /// A file with the name that it is to have.
 #[derive(Drop)]

@@ -9,11 +9,10 @@ use crate::message::Message;
 use crate::opened::{Kept, Opened, open_source};
 use crate::progress::Progress;
 use crate::warned::warn;
-use sdl_command_line::{InputFile, Part, Task};
+use sdl_command_line::{InputFile, Part, Task, ToldRun};
 use sdl_engine::{
     Names, Nobody, Notes, Options, Outcome, Serial, Source, TextFault, Threaded, View, run_and_note,
 };
-use sdl_views::ToldRun;
 use std::io::Write;
 use std::sync::Wait;
 use std::thread::Threads;

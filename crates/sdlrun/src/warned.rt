@@ -5,8 +5,7 @@ use crate::message::Message;
 use crate::opened::{Kept, Opened};
 use crate::reading::names_of;
 use sdl_command_line::Task;
-use sdl_engine::{Outcome, Source, TextFault, suspicions_of};
-use sdl_input::Texts;
+use sdl_engine::{Outcome, Source, TextFault, Texts, suspicions_of};
 use sdl_report::write_text;
 
 /// Says on standard error what is suspicious in a specification that is accepted, if that is asked for. It answers

@@ -1,10 +1,10 @@
 //! Charts of runs that the whole tool has made.
 
 use crate::devices::Narrow;
+use sdl_command_line::{Form, draw};
 use sdl_engine::{
     Command, Names, Nobody, Notes, Options, Serial, Source, TextFault, View, run_and_note,
 };
-use sdl_views::{Form, draw};
 use std::alloc::Global;
 use std::process::Abort;
 use view_chart::Selection;

@@ -3,9 +3,8 @@
 use clap::Error;
 use clap::error::ErrorKind;
 use port_values::Ticks;
-use sdl_command_line::{InputFile, Part, Task, chosen};
+use sdl_command_line::{Form, InputFile, Part, Task, chosen};
 use sdl_engine::{Command, Options, View};
-use sdl_views::Form;
 use std::alloc::Global;
 use std::process::Abort;
 use view_chart::Selection;

@@ -2,11 +2,11 @@
 
 use crate::covered::COVERED;
 use crate::devices::Narrow;
+use sdl_command_line::{ToldRun, cover, draw};
 use sdl_engine::{
     Command, Names, Nobody, Notes, Options, Outcome, Serial, Source, TextFault, Threaded, View,
     run_and_note,
 };
-use sdl_views::{ToldRun, cover, draw};
 use std::alloc::Global;
 use std::process::Abort;
 use std::sync::Wait;
@@ -321,7 +321,13 @@ fn draws_the_same_run(rt: HostRuntime) {
     };
     let mut chart = Vec::new(rt.alloc());
     let run = kept(&rt, &notes, &SERIAL).run;
-    let drawn = draw(rt.alloc(), run, sdl_views::Form::Msc, &all, &mut chart);
+    let drawn = draw(
+        rt.alloc(),
+        run,
+        sdl_command_line::Form::Msc,
+        &all,
+        &mut chart,
+    );
     assert!(rt; drawn == Ok(None));
     assert!(rt; chart.ends_with(b"endmsc; /* end 1 whole */\n".as_slice()));
     let plain = covered(&rt, rt.alloc(), &notes, &SERIAL, Form::Plain);

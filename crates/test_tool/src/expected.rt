@@ -1,8 +1,7 @@
 //! What is expected of a run, and what it sent.
 
+use sdl_command_line::{by_sender, difference_text, first_difference, lines_of, sent_signals};
 use sdl_engine::{Command, Names, Nobody, Notes, Options, Run, Serial, Source, View, run_and_note};
-use sdl_expected::{by_sender, difference_text, first_difference, lines_of};
-use sdl_views::sent_signals;
 use std::alloc::Global;
 use std::process::Abort;
 

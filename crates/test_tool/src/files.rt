@@ -1,13 +1,12 @@
 //! Files that are written of a run: which are refused, and what a fault leaves of the one that was there.
 
-use sdl_command_line::{Overwriting, Task, chosen, overwritten_by};
-use sdl_views::OutputFile;
+use sdl_command_line::{OutputFile, Overwriting, Task, chosen, overwritten_by};
 use std::alloc::Global;
 use std::io::Write;
 use std::os::unix::fs::symlink;
-use std::process::{self, Abort};
+use std::process::Abort;
 use std::rt::{Env, Files};
-use std::{env, fs};
+use std::{env, fs, process};
 
 /// Makes a folder for the files of a test. The number is that of the process.
 fn folder<R: Files + Env + AllocGlobal + Abort>(rt: &R, test: &str, number: u32) -> String {

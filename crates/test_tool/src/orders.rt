@@ -1,10 +1,10 @@
 //! The order of a run through the whole tool: what each order has, whatever the schedule.
 
+use sdl_command_line::{Form, draw};
 use sdl_engine::{
     Command, Names, Nobody, Notes, Options, Outcome, Source, TextFault, Threaded, View,
     run_and_note,
 };
-use sdl_views::{Form, draw};
 use std::alloc::Global;
 use std::process::Abort;
 use std::sync::Wait;

@@ -1,8 +1,7 @@
 //! Sentences about the rules that a specification breaks.
 
 use build_names::Rule;
-use explain_lines::Advice;
-use explain_syntax::NO_MEMORY;
+use explain_syntax::{Advice, NO_MEMORY};
 use sdl_build::BuildError;
 use std::alloc::{AllocError, Global};
 

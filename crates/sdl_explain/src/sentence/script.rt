@@ -1,8 +1,7 @@
 //! Sentences about the lines of a script.
 
-use explain_lines::{Advice, Excerpt, about_marked};
-use explain_syntax::{NO_MEMORY, line_fault, name_in, receiver_in};
-use sdl_advice::{Sent, sent_values_advice, unsent_advice};
+use crate::advice::{Sent, sent_values_advice, unsent_advice};
+use explain_syntax::{Advice, Excerpt, NO_MEMORY, about_marked, line_fault, name_in, receiver_in};
 use sdl_script::ScriptError;
 use sdl_tree::Tree;
 use std::alloc::{AllocError, Global};

@@ -1,6 +1,6 @@
 use Rattle.std.proofs.Common.{◌∙◌, ap, sym}
 use Rattle.std.proofs.lemmas.Result.{on_ok_weaker}
-use Rattle.explain_rests.specs.Gap.{lacks}
+use Rattle.explain_syntax.specs.Gap.{lacks}
 use Rattle.sdl_explain.proofs.OthersLemmas.{counts, counts_not}
 use Rattle.sdl_explain.proofs.others.add_unless_lacking.Goals as goal
 

@@ -1,5 +1,5 @@
 use Rattle.std.proofs.Common.{subst}
-use Rattle.explain_rests.specs.Gap.{LeavesOutIf}
+use Rattle.explain_syntax.specs.Gap.{LeavesOutIf}
 use Rattle.sdl_explain.proofs.others.found_past.Goals as goal
 use Rattle.sdl_explain.specs.Others.{IsFound, kept, left_out}
 

@@ -1,7 +1,7 @@
 use Rattle.std.proofs.Common.{◌∙◌, ◌++◌, ap, append_assoc, subst}
 use Rattle.sdl_explain.proofs.told.faults_text.Goals as goal
-use Rattle.explain_lines.specs.Explanation.{explanation_text}
-use Rattle.explain_lines.specs.More.{more_text}
+use Rattle.explain_syntax.specs.Explanation.{explanation_text}
+use Rattle.explain_syntax.specs.More.{more_text}
 use Rattle.sdl_explain.specs.Told.{AreTold, TellsFault}
 use Rattle.sdl_build.specs.declared.error.BuildError.{BuildError}
 

@@ -1,7 +1,7 @@
 use Rattle.std.proofs.Common.{◌∙◌, ◌++◌, ap, append_assoc, subst}
 use Rattle.sdl_explain.proofs.told.lines_text.Goals as goal
-use Rattle.explain_lines.specs.Explanation.{explanation_text}
-use Rattle.explain_lines.specs.More.{more_text}
+use Rattle.explain_syntax.specs.Explanation.{explanation_text}
+use Rattle.explain_syntax.specs.More.{more_text}
 use Rattle.sdl_explain.specs.Told.{AreTold, TellsLine}
 use Rattle.sdl_script.specs.declared.script.ScriptError.{ScriptError}
 

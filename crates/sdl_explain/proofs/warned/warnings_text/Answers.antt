@@ -1,6 +1,6 @@
 use Rattle.std.proofs.Common.{◌∙◌, ◌++◌, ap, rules, subst, true}
 use Rattle.sdl_explain.proofs.warned.warnings_text.Goals as goal
-use Rattle.explain_lines.specs.More.{more_text}
+use Rattle.explain_syntax.specs.More.{more_text}
 use Rattle.sdl_explain.specs.Told.{AreTold}
 use Rattle.sdl_explain.specs.Warned.{IsMessage}
 use Rattle.sdl_warnings.specs.declared.suspicion.Warning.{Warning}

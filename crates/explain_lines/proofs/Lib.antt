@@ -1,2 +1,0 @@
-mod ByteLemmas
-pub mod ExcerptLemmas

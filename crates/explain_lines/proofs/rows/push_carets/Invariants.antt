@@ -1,6 +1,0 @@
-use Rattle.std.proofs.Common.{◌≡◌, ◌++◌}
-use Rattle.std.specs.Prelude.{replicate}
-use Rattle.explain_lines.proofs.rows.push_carets.Given as goal
-
-abbrev pub invariant-loop-caret : goal.invariant-loop-caret
-invariant-loop-caret l = l.text.items ≡ l.initial.text.items ++ replicate l._caret 94

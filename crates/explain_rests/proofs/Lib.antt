@@ -1,4 +1,0 @@
-pub mod ChangeLemmas
-pub mod GapLemmas
-pub mod RestLemmas
-pub mod ScanLemmas

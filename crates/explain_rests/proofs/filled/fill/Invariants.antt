@@ -1,6 +1,0 @@
-use Rattle.explain_rests.specs.Rest.{byte_at}
-use Rattle.explain_rests.proofs.ChangeLemmas.{IsChanged}
-use Rattle.explain_rests.proofs.filled.fill.Given as goal
-
-abbrev pub invariant-loop-at : goal.invariant-loop-at
-invariant-loop-at l = IsChanged (byte_at l.from l.to l.stops) l.at l.fn.text.items l.text.items

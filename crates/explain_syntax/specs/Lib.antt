@@ -1,0 +1,12 @@
+pub mod Cut
+pub mod Earlier
+pub mod Excerpt
+pub mod Explanation
+pub mod Gap
+pub mod Line
+pub mod More
+pub mod Origin
+pub mod Rest
+pub mod Rows
+pub mod Scan
+pub mod Words

@@ -1,7 +1,0 @@
-use Rattle.run_evaluation.specs.Knowledge.{environment_of}
-use Rattle.failure_replay.specs.Fails.{EachBefore, HasTruth, enabling_of}
-use Rattle.failure_replay.proofs.condition.try_enabling.Given as goal
-
-abbrev pub invariant-loop-one : goal.invariant-loop-one
-invariant-loop-one l =
-    EachBefore (HasTruth l.process (environment_of l.knowledge)) (enabling_of l.table) l.one-index

@@ -1,4 +1,0 @@
-use Rattle.failure_replay.proofs.create.+variables_of.Given as goal
-
-abbrev pub decreases-variables_of : goal.decreases-variables_of
-decreases-variables_of l = l.trace.now.pid

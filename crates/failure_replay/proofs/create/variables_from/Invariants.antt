@@ -1,5 +1,0 @@
-use Rattle.std.proofs.Common.{◌≡◌, ◌++◌, map}
-use Rattle.failure_replay.proofs.create.variables_from.Given as goal
-
-abbrev pub invariant-loop-variable : goal.invariant-loop-variable
-invariant-loop-variable l = l.list.items ≡ l.initial.list.items ++ map (λ x. x.now.initial) l.yielded

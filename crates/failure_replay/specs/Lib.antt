@@ -1,9 +1,0 @@
-pub mod Came
-pub mod Ending
-pub mod Fails
-pub mod Known
-pub mod Part
-pub mod Received
-pub mod Replay
-pub mod Stands
-pub mod Told

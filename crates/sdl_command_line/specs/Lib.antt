@@ -1,0 +1,9 @@
+pub mod Chosen
+pub mod Covered
+pub mod Difference
+pub mod Drawn
+pub mod Lines
+pub mod Outputs
+pub mod Sender
+pub mod Sent
+pub mod Shown

@@ -1,2 +1,0 @@
-pub mod CoveredLaws
-pub mod DrawnLaws

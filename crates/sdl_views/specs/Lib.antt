@@ -1,4 +1,0 @@
-pub mod Chosen
-pub mod Covered
-pub mod Drawn
-pub mod Sent
