@@ -11,7 +11,7 @@
 //! refused. What is shown is the line of the place (`explain_syntax::lines`), and if another place matters one before it: for a
 //! name that is there again, the place of the same word. The contracts promise so much. Which sentence belongs to which
 //! refusal is a table, of which no contract speaks. What a text lacks to be a specification is said by `explain_syntax`,
-//! and what was wanted of a name or a sort by `sdl_explain::advice`.
+//! and what was wanted of a name or a sort by `crate::advice`.
 //!
 //! `other_faults` and `other_lines` find what else is wrong: each of these is told of the same text, in which what is
 //! around the faults before it is left out. `warnings_text` says what is suspicious (`sdl_warnings`) in the same way.

@@ -33,6 +33,8 @@ mod pair;
 #[cfg(test)]
 mod play;
 #[cfg(test)]
+mod port;
+#[cfg(test)]
 mod runtime;
 #[cfg(test)]
 mod shared;

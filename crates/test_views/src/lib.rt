@@ -19,6 +19,8 @@ mod pictures;
 #[cfg(test)]
 mod relay;
 #[cfg(test)]
+mod replay;
+#[cfg(test)]
 mod runs;
 #[cfg(test)]
 mod spent;
