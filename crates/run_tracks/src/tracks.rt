@@ -297,6 +297,25 @@ impl<'r> Tracks<'r> {
         Some(number)
     }
 
+    /// Others may put into the port of a number before its next look, if that may be none and is in their way. Says
+    /// whether it is so.
+    pub fn release_at(&mut self, number: u32) -> bool
+        ensures released { result ≡ is_released_at (at_number self.old.ports number) }
+        ensures after { self.new ≡ (if result then released_at (Some number) self.old else self.old) }
+    {
+        let Some(place) = place_of(number) else {
+            return false;
+        };
+        let Some(port) = self.ports.get_mut(place) else {
+            return false;
+        };
+        if !port.may_release() {
+            return false;
+        }
+        port.release();
+        true
+    }
+
     /// The first number of a port whose next look may be none, and hinders.
     fn first_released(&self) -> Option<u32>
         ensures released { IfSome result (λ number. IsTrue (is_released_at (at_number self.now.ports number))) }

@@ -359,6 +359,75 @@ fn who_is_cut_need_not_rest(rt: HostRuntime) {
     expect_order(&rt, alloc, CUT, "", &run, &[1, 1, 2, 2, 2, 2], None);
 }
 
+/// #1 fails as it finds nothing, and x of #3 comes behind its look. #2 fails before it looks, and its own signal is in its
+/// port by then.
+static OWN: &str = "system S; signal x, y, z;
+    process P (1, 1); dcl n Integer := 0; start; output y to Q; nextstate w;
+    state w; input x; provided n = 0; nextstate w; provided 1 / n > 5; nextstate w; endstate; endprocess;
+    process Q (1, 1); dcl n Integer := 0; start; output z to Q; nextstate w;
+    state w; input y; provided 1 / n > 0; nextstate w; input z; nextstate w; provided n > 5; nextstate w;
+    endstate; endprocess;
+    process R (1, 1); start; output x to P; nextstate w; state w; endstate; endprocess;
+    endsystem;";
+
+/// #1 sends to #2, which has sent to itself before, and both had drawn nothing when they failed, first #1.
+fn own(alloc: Global) -> Result<Written, AllocError> {
+    let mut run = Written::new(alloc, 0, &[])?;
+    run.add(
+        P,
+        Pid::Null,
+        &[
+            Start,
+            Send(Y, Dest::Process(Q), 2),
+            Wait,
+            FailWaiting(Failure::ZeroDivisor),
+        ],
+        Kept {
+            puts: &[1],
+            drawn: &[0, 0],
+            versions: &[3, 4],
+            senders: &[(2, 2)],
+        },
+    )?;
+    run.add(
+        Q,
+        Pid::Null,
+        &[
+            Start,
+            Send(Z, Dest::Process(Q), 2),
+            Wait,
+            FailWaiting(Failure::ZeroDivisor),
+        ],
+        Kept {
+            puts: &[1, 2],
+            drawn: &[0, 0],
+            versions: &[3, 5],
+            senders: &[(2, 1)],
+        },
+    )?;
+    run.add(
+        R,
+        Pid::Null,
+        &[Start, Send(X, Dest::Process(P), 1), Wait, Rest],
+        Kept {
+            puts: &[],
+            drawn: &[0],
+            versions: &[3],
+            senders: &[(1, 1)],
+        },
+    )?;
+    Ok(run)
+}
+
+/// All three are hindered, two by looks that may be none. That of #2 is, since its own signal comes before it.
+#[test]
+fn who_puts_into_its_own_port_goes_first(rt: HostRuntime) {
+    let alloc = rt.alloc();
+    let run = own(alloc).expect(&rt, "a run");
+    let order = [1, 2, 3, 2, 2, 1, 1, 1, 2, 3, 3];
+    expect_order(&rt, alloc, OWN, "", &run, &order, None);
+}
+
 /// A run of one instance, which found no memory for its next state.
 fn without_memory(alloc: Global) -> Result<Written, AllocError> {
     let mut run = Written::new(alloc, 0, &[])?;

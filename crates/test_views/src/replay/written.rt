@@ -135,7 +135,7 @@ fn note(alloc: Global, record: &mut Record, at: Ticks, did: Did) -> Result<(), A
         Did::Fail(why) => record.failed(why),
         Did::Tick => {}
         Did::Rest => record.rest(StateId(0)),
-        Did::Cut => record.cut(StateId(0)),
+        Did::Cut => record.cut(Some(StateId(0))),
     }
     Ok(())
 }

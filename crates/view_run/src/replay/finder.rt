@@ -196,13 +196,33 @@ impl<'r, 's> Finder<'r, 's> {
     fn release(&mut self) -> Result<bool, AllocError>
         ensures { job_of self.new ≡ job_of self.old }
     {
-        match self.tracks.release() {
+        let released = match self.release_own() {
+            Some(number) => Some(number),
+            None => self.tracks.release(),
+        };
+        match released {
             Some(number) => {
                 self.wake_turn(number)?;
                 Ok(true)
             }
             None => Ok(false),
         }
+    }
+
+    /// Lets an instance put into its own port that is hindered by its own look: what it puts comes before that, so the look
+    /// is none. Its number; None: nobody is hindered so.
+    fn release_own(&mut self) -> Option<u32>
+        ensures { job_of self.new ≡ job_of self.old }
+    {
+        let mut behind = 0;
+        for _ in 0..u64::MAX {
+            let number = self.chronicle.replay().next_noted(behind)?;
+            if self.puts_to_itself(number) && self.tracks.release_at(number) {
+                return Some(number);
+            }
+            behind = number;
+        }
+        None
     }
 
     /// Whoever waits for this time goes on.
