@@ -4,7 +4,7 @@ use Rattle.std.proofs.Common.{◌≡◌, ◌∙◌, ◌⊎◌, ◌+◌, ◌<◌,
 use Rattle.std.proofs.lemmas.Bool.Decides.{nat_tests}
 use Rattle.std.proofs.lemmas.Option.{slice_get_past}
 use Rattle.port_inbox.specs.declared.entry.Fuse.{Fuse}
-use Rattle.port_model.proofs.Spent.{spent_expires, spent_step}
+use Rattle.port_model.proofs.Spent.{spent_step}
 use Rattle.port_model.specs.History.{Expire, Put}
 use Rattle.port_model.specs.Port.{PortState, expire_in, is_spent, put_into}
 use Rattle.port_values.specs.declared.item.Item.{Item}
@@ -52,17 +52,6 @@ spent_expiry fuse other at i spent = by_test (other.pid == i.owner.pid) where
   by_test true =
       spent_step fuse.key fuse.arm fuse.due port after (Expire other.key other.arm other.due at) refl spent
   by_test false = spent
-
--- it expires to no effect
-pub same_expiry : (fuse : Fuse) (at : ℕ) (i : InstanceValue) → is_spent_of fuse (Some i) ≡ true
-    → with_expiry fuse at i ≡ i
-same_expiry fuse at i spent =
-    ap (λ (state : PortState). record i { owner = record i.owner { state = state } }) (by_test (fuse.pid == i.owner.pid))
-  where
-    by_test : (b : Bool)
-        → (if b then expire_in i.owner.state fuse.key fuse.arm fuse.due at else i.owner.state) ≡ i.owner.state
-    by_test true = spent_expires fuse.key fuse.arm fuse.due i.owner.state at spent
-    by_test false = refl
 
 -- ---- all instances
 

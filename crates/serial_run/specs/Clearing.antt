@@ -1,11 +1,12 @@
 -- Spent fuses that a run hasn't any more: in an execution they expire to no effect, before anything else is done.
-use Rattle.std.proofs.Common.{◌≡◌, ◌⊎◌, ◌∙◌, ◌+◌, ◌<◌, ◌≤◌, Bool, true, false, ℕ, zero, suc, nat_le, List, [], ◌∷◌, Option, None, Some, ap, arith, inl, inr, leb-false, leb-true, refl, set, slice_get, subst, sym}
+use Rattle.std.proofs.Common.{◌≡◌, ◌⊎◌, ◌∙◌, ◌+◌, ◌<◌, ◌≤◌, ◌==◌, Bool, true, false, ℕ, zero, suc, nat_le, if◌then◌else◌, List, [], ◌∷◌, Option, None, Some, ap, arith, inl, inr, leb-false, leb-true, refl, set, slice_get, subst, sym}
 use Rattle.std.proofs.lemmas.List.Elements.{All-cons, All-head, All-nil, All-weaker}
 use Rattle.port_inbox.specs.declared.entry.Fuse.{Fuse}
+use Rattle.port_model.proofs.Spent.{spent_expires}
+use Rattle.port_model.specs.Port.{PortState, expire_in}
 use Rattle.sdl_timers.proofs.Firing.{no_earlier}
 use Rattle.sdl_timers.specs.DueOrder.{IsInOrder, is_before}
 use Rattle.sdl_timers.specs.Thinned.{Thins}
-use Rattle.serial_run.proofs.Thinning.{same_expiry}
 use Rattle.serial_run.specs.Serial.{state_of}
 use Rattle.serial_run.specs.Thinned.{IsThinned, is_spent_in, is_spent_of}
 use Rattle.serial_run.specs.declared.instances.Instances.{Instances}
@@ -19,6 +20,17 @@ use Rattle.sdl_interp.specs.Instance.{InstanceValue}
 use Rattle.sdl_system.specs.Behaviour.{Behaviour}
 
 -- ---- a spent fuse expires
+
+-- it expires to no effect
+same_expiry : (fuse : Fuse) (at : ℕ) (i : InstanceValue) → is_spent_of fuse (Some i) ≡ true
+    → with_expiry fuse at i ≡ i
+same_expiry fuse at i spent =
+    ap (λ (state : PortState). record i { owner = record i.owner { state = state } }) (by_test (fuse.pid == i.owner.pid))
+  where
+    by_test : (b : Bool)
+        → (if b then expire_in i.owner.state fuse.key fuse.arm fuse.due at else i.owner.state) ≡ i.owner.state
+    by_test true = spent_expires fuse.key fuse.arm fuse.due i.owner.state at spent
+    by_test false = refl
 
 set_same : (xs : List InstanceValue) (place : ℕ) (i : InstanceValue) → slice_get xs place ≡ Some i
     → set xs place i ≡ xs

@@ -6,16 +6,8 @@ use Rattle.std.specs.List.{flat_map}
 use Rattle.std.specs.Io.KnownBytes.{Appends}
 use Rattle.std.proofs.KnownBytes.{Appends-nil, Appends-trans}
 use Rattle.sdl_report.specs.Gathered.{Breaks, BreaksOff, Grows}
-use Rattle.sdl_report.specs.ReportText.{line}
 use Rattle.sdl_report.proofs.GatheredLemmas.{Breaks-after, Breaks-before, Breaks-gathered, Breaks-prefix, Grows-gathered, Grows-trans}
 use Rattle.view_text.specs.Written.{BreaksBefore}
-
--- a line has bytes
-pub line-some : (text rest : List ℕ) → 0 < length (line text ++ rest)
-line-some text rest = omega (arith, length-append (line text) rest, length-append text (10 ∷ []))
-
-pub line-alone : (text : List ℕ) → 0 < length (line text)
-line-alone text = omega (arith, length-append text (10 ∷ []))
 
 -- nothing more has gone out
 pub before-now : (held : Option (List ℕ)) (gathered bytes : List ℕ) → BreaksBefore held gathered held bytes

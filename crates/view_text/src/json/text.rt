@@ -67,7 +67,7 @@ impl TimelineText for Json<'_> {
     ghost use Rattle.std.specs.Prelude.{◌++◌};
     ghost use Rattle.sdl_report.specs.ReportText.{line};
     ghost use Rattle.view_text.specs.JsonText.{end_json, lost_json, step_json, stuck_json};
-    ghost use Rattle.view_text.proofs.Writing.{line-some};
+    ghost use Rattle.view_text.specs.Written.{line-some};
 
     ghost heading_text = { λ json. [] };
 

@@ -66,7 +66,7 @@ impl TimelineText for Lines<'_> {
     ghost use Rattle.std.specs.Prelude.{◌++◌};
     ghost use Rattle.sdl_report.specs.ReportText.{end_text};
     ghost use Rattle.view_text.specs.LinesText.{closing_text, heard, lost_line, order_text, script_text, step_line};
-    ghost use Rattle.view_text.proofs.Writing.{line-some};
+    ghost use Rattle.view_text.specs.Written.{line-some};
 
     ghost heading_text = { λ lines. [] };
 
