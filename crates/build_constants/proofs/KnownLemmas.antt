@@ -10,8 +10,8 @@ use Rattle.build_expressions.specs.declared.scope.Constant.{Constant}
 use Rattle.build_expressions.specs.declared.scope.Constant.TheVariants.{NoValue}
 use Rattle.build_constants.proofs.NamedLemmas.{same-constant}
 use Rattle.build_constants.specs.Known.{AreStuck, IsKnown, are_settled, count_open, is_settled_at}
-use Rattle.build_constants.specs.SynonymsSynonyms.{AreConstants, Settles, constant_of, constant_with, named_by}
-use Rattle.build_constants.specs.SynonymsSynonyms as synonyms
+use Rattle.build_constants.specs.SettledSynonyms.{AreConstants, Settles, constant_of, constant_with, named_by}
+use Rattle.build_constants.specs.SettledSynonyms as synonyms
 use Rattle.build_constants.specs.declared.synonyms.synonym.Synonym.{Synonym}
 
 -- ---- booleans

@@ -19,7 +19,7 @@ use Rattle.build_expressions.specs.declared.scope.ValueEntry.{ValueEntry}
 use Rattle.build_expressions.specs.declared.scope.ValueEntry.TheVariants as entry
 use Rattle.build_expressions.specs.declared.scope.ValueMeaning.TheVariants as meant
 use Rattle.build_constants.specs.Named.{named_in, named_in_links, named_in_values, synonym_in}
-use Rattle.build_constants.specs.SynonymsSynonyms.{constant_of, constant_with, named_by, scope_with}
+use Rattle.build_constants.specs.SettledSynonyms.{constant_of, constant_with, named_by, scope_with}
 use Rattle.build_constants.specs.declared.synonyms.synonym.Synonym.{Synonym}
 use Rattle.sdl_tree.specs.Tree.{Expr, Exprs, Links, Numeral, Named, Keyword, Active, Paren, Unary, Chain, NoExpr, AndExpr, NoLink, AndLink}
 use Rattle.sdl_tree.specs.Views.{expr_value}

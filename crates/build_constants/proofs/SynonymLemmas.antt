@@ -9,7 +9,7 @@ use Rattle.build_definitions.specs.Definitions.{Rows}
 use Rattle.build_definitions.specs.declared.symbols.symbol_table.SymbolTable.{SymbolTable}
 use Rattle.build_names.specs.Faults.{Diagnostic, least_of}
 use Rattle.build_expressions.specs.declared.scope.Constant.{Constant}
-use Rattle.build_constants.specs.SynonymsSynonyms.{synonym_faults}
+use Rattle.build_constants.specs.SettledSynonyms.{synonym_faults}
 use Rattle.build_constants.specs.declared.synonyms.synonym.Synonym.{Synonym}
 use Rattle.build_constants.specs.Synonyms.{AreSynonyms, IsSynonym, faults_in_row}
 

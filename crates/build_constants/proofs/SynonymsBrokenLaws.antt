@@ -17,8 +17,8 @@ use Rattle.build_constants.proofs.NamedLemmas.{listed}
 use Rattle.build_constants.specs.SynonymsBroken.{IsBrokenSynonym, LeadsTo, Names, StandsFor}
 use Rattle.build_constants.specs.SynonymsBroken as way
 use Rattle.build_constants.specs.Named.{named_in, named_in_links, named_in_values, synonym_in}
-use Rattle.build_constants.specs.SynonymsSynonyms.{Settles, named_by, scope_with, synonym_faults}
-use Rattle.build_constants.specs.SynonymsSynonyms as synonyms
+use Rattle.build_constants.specs.SettledSynonyms.{Settles, named_by, scope_with, synonym_faults}
+use Rattle.build_constants.specs.SettledSynonyms as synonyms
 use Rattle.build_constants.specs.declared.synonyms.synonym.Synonym.{Synonym}
 use Rattle.sdl_tree.specs.Tree.{Expr, Exprs, Links, Numeral, Named, Keyword, Active, Paren, Unary, Chain, NoExpr, AndExpr, NoLink, AndLink}
 use Rattle.sdl_tree.specs.Views.{expr_value}

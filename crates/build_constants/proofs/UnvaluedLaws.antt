@@ -22,7 +22,7 @@ use Rattle.build_expressions.specs.declared.scope.Constant as constants
 use Rattle.build_expressions.specs.declared.scope.Constant.TheVariants.{NoValue}
 use Rattle.build_expressions.specs.declared.scope.ValueMeaning.TheVariants as meant
 use Rattle.build_constants.specs.SynonymsBroken.{Names}
-use Rattle.build_constants.specs.SynonymsSynonyms.{AreConstants, Settles, constant_of, scope_with, synonym_faults}
+use Rattle.build_constants.specs.SettledSynonyms.{AreConstants, Settles, constant_of, scope_with, synonym_faults}
 use Rattle.build_constants.specs.declared.synonyms.synonym.Synonym.{Synonym}
 use Rattle.sdl_system.specs.Term.{Term, binary, unary}
 use Rattle.sdl_system.specs.declared.sort.Sort.{Sort}

@@ -2,7 +2,7 @@
 use Rattle.std.specs.Prelude.{◌≡◌, ◌&&◌, ℕ, ◌+◌, ◌<◌, Bool, true, false, List, [], ◌∷◌, Some, length, slice_get, slice_index_or}
 use Rattle.build_expressions.specs.declared.scope.Constant.{Constant}
 use Rattle.build_expressions.specs.declared.scope.Constant.TheVariants.{NoValue}
-use Rattle.build_constants.specs.SynonymsSynonyms.{Settles, constant_of, constant_with, named_by}
+use Rattle.build_constants.specs.SettledSynonyms.{Settles, constant_of, constant_with, named_by}
 use Rattle.build_constants.specs.declared.synonyms.synonym.Synonym.{Synonym}
 
 -- whether the synonym of this number is settled

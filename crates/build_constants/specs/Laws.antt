@@ -13,7 +13,7 @@ use Rattle.build_expressions.specs.declared.scope.Constant.{Constant}
 use Rattle.build_expressions.specs.declared.scope.ValueEntry.{ValueEntry}
 use Rattle.build_constants.specs.SynonymsBroken.{IsBrokenSynonym, LeadsTo, Names}
 use Rattle.build_constants.specs.Named.{named_in}
-use Rattle.build_constants.specs.SynonymsSynonyms.{AreConstants, Settles, constant_of, scope_with, synonym_faults}
+use Rattle.build_constants.specs.SettledSynonyms.{AreConstants, Settles, constant_of, scope_with, synonym_faults}
 use Rattle.build_constants.specs.declared.synonyms.synonym.Synonym.{Synonym}
 use Rattle.sdl_tree.specs.Tree.{Expr, Named}
 use Rattle.sdl_tree.specs.Views.{expr_value}

@@ -8,6 +8,6 @@ pub mod Named
 pub mod Scopes
 pub mod Synonyms
 pub mod SynonymsBroken
-pub mod SynonymsSynonyms
+pub mod SettledSynonyms
 pub mod Timers
 pub mod Variables

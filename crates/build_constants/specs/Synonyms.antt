@@ -10,7 +10,7 @@ use Rattle.build_expressions.specs.Constants.{constant_faults}
 use Rattle.build_expressions.specs.Scope.{visible}
 use Rattle.build_expressions.specs.declared.scope.Constant.{Constant}
 use Rattle.build_names.specs.Spaces.{seen_in}
-use Rattle.build_constants.specs.SynonymsSynonyms.{AreConstants}
+use Rattle.build_constants.specs.SettledSynonyms.{AreConstants}
 use Rattle.build_constants.specs.declared.synonyms.synonym.Synonym.{Synonym}
 use Rattle.sdl_tree.specs.Views.{expr_value}
 

@@ -10,7 +10,7 @@ use Rattle.build_expressions.specs.declared.scope.Constant.{Constant}
 use Rattle.build_expressions.specs.declared.scope.SynonymId.{SynonymId}
 use Rattle.build_expressions.specs.declared.scope.ValueEntry.{ValueEntry}
 use Rattle.build_expressions.specs.declared.scope.ValueEntry.TheVariants as entry
-use Rattle.build_constants.specs.SynonymsSynonyms.{scope_with}
+use Rattle.build_constants.specs.SettledSynonyms.{scope_with}
 use Rattle.build_constants.specs.declared.synonyms.synonym.Synonym.{Synonym}
 use Rattle.sdl_system.specs.declared.sort.Sort.{Sort}
 use Rattle.sdl_tree.specs.Tree.{Expr, Named}

@@ -2,8 +2,8 @@
 //!
 //! A synonym may be used before the place of its definition, so they are settled one after the other: each once all
 //! that its expression names are. What never settles is defined by itself, directly or by others, or rests on such a
-//! synonym, and has no value. `specs/SynonymsSynonyms` says which table of constants that is, and the public function answers
-//! just that one.
+//! synonym, and has no value. `specs/SettledSynonyms` says which table of constants that is, and the public function
+//! answers just that one.
 
 mod known;
 pub mod laws;

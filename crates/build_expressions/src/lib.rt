@@ -1,13 +1,10 @@
-//! The sorts of operands, and what each operator gives for operands of which sorts (Z.104: expressions).
-//!
-//! `specs/OperandSorts` has the table: what isn't there is no operation. Each function answers exactly what the table says.
-//!
 //! Expressions of a specification: what the names in them stand for, their sorts, and the values of those that are
 //! constant (Z.104).
 //!
-//! `specs/Scope` has what names stand for at a place of the text, and `specs/Typing` the kind and the term of an
-//! expression and the rules that it breaks, by the table of operators of `build_expressions`. Each function answers exactly
-//! what its definition says, and notes exactly the faults of its list.
+//! `specs/OperandSorts` has the table of operators: what each gives for operands of which sorts; what isn't there is no
+//! operation. `specs/Scope` has what names stand for at a place of the text, and `specs/Typing` the kind and the term of
+//! an expression and the rules that it breaks, by that table. Each function answers exactly what its definition says, and
+//! notes exactly the faults of its list.
 #![tactic(auto)]
 
 mod answers;

@@ -1,12 +1,10 @@
-//! The transitions of a process: all of its nodes in one table, and the node at which each transition begins (Z.101:
-//! start, input, connection; Z.102: transition).
-//!
-//! `specs/Bodies` has the bodies of a process and the rules that are broken in them. `transitions_of` notes exactly
-//! these, and where no rule on transitions, labels and ends is broken, its nodes are the table of the bodies. Paths
-//! without a terminator are noted by `build_flow`, and labels have the numbers that the caller gives them.
-//!
 //! A process of a system, whole: what its text says, which rules are broken in it, and what its instances are made of
-//! (Z.101: process, state; Z.102: transition).
+//! (Z.101: process, start, state, input, connection; Z.102: transition).
+//!
+//! `specs/Bodies` has the bodies of its transitions and the rules that are broken in them. `transitions_of` notes exactly
+//! these, and where no rule on transitions, labels and ends is broken, its nodes are the table of the bodies: all nodes of
+//! the process, and the node at which each transition begins. Paths without a terminator are noted by `build_flow`, and
+//! labels have the numbers that the caller gives them.
 //!
 //! `specs/Faulty` has the rules that are broken in the states and transitions of a process, and `specs/Meant` what the
 //! process does, as plain data. `make_process` notes exactly the faults of the one, and a process that it makes means

@@ -5,7 +5,7 @@
 //! where the ways are joined, and by implied channels in a scope without any. `routes_of` makes the table of routes,
 //! which tells for each source and signal just the processes to which a path leads, and whether one leads to the
 //! environment; `valid_sets` makes the valid input sets. The network and the sets of its signal lists are those of
-//! `crate::network`.
+//! the module `network`.
 #![tactic(auto)]
 
 mod arrivals;

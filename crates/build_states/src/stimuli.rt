@@ -4,8 +4,8 @@
 //! A stimulus speaks of signals at words of its own: at the name of a signal, at that of a list, or at an asterisk.
 //! Transitions are named by their numbers in the order of the text, and no statement of theirs is read here; so are
 //! conditions, which are resolved. `specs/Mentions` has what a stimulus says, `specs/Faulty` a list of the rules that
-//! it breaks, and `specs/Reading` a whole process; `specs/StimuliBroken` says of the words of the text which rules are broken,
-//! and `laws` that the list says the same. What the states say by their stimuli stands above, in `build_states`.
+//! it breaks, and `specs/Reading` a whole process; `specs/StimuliBroken` says of the words of the text which rules are
+//! broken, and `laws` that the list says the same. What the states say by their stimuli stands above, in `build_states`.
 
 mod context;
 mod inputs;

@@ -1,12 +1,10 @@
-//! What a table of a process holds (`specs/Linked`), and the class of each signal in a state where every condition is
-//! true (Z.101: input, save; Z.102: priority input, enabling condition).
-//!
 //! The states of a process as tables of a system (Z.101: state, input, save; Z.102: priority input, enabling
 //! condition, continuous signal).
 //!
 //! What a state says of each signal stands in `build_states`, with transitions by their numbers. Here each transition
 //! gets the node at which it begins, each signal its class, and each enabling condition the signals that wait for it.
-//! `specs/Linked` of `build_tables` has what a table holds, and `specs/Meant` what it means.
+//! `specs/Linked` has what a table holds, and the class of each signal where every condition is true; `specs/Meant` has
+//! what a table means.
 #![tactic(auto)]
 
 mod condition;

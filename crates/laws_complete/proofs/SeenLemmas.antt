@@ -38,7 +38,7 @@ use Rattle.build_expressions.specs.declared.scope.ValueEntry.TheVariants as entr
 use Rattle.build_expressions.specs.declared.scope.ValueMeaning.{ValueMeaning}
 use Rattle.build_expressions.specs.declared.scope.ValueMeaning.TheVariants as meant
 use Rattle.build_names.specs.declared.scopes.scope.ScopeId.{ScopeId}
-use Rattle.build_constants.specs.SynonymsSynonyms.{scope_with, synonym_faults}
+use Rattle.build_constants.specs.SettledSynonyms.{scope_with, synonym_faults}
 use Rattle.build_constants.specs.declared.synonyms.synonym.Synonym.{Synonym}
 use Rattle.sdl_system.specs.declared.sort.Sort.{Sort}
 use Rattle.sdl_system.specs.declared.sort.Sort.TheVariants as the_sort

@@ -20,8 +20,8 @@ use Rattle.build_constants.proofs.SynonymsBrokenLaws.{listed-named}
 use Rattle.build_constants.proofs.NamedLemmas.{listed}
 use Rattle.build_constants.proofs.UnvaluedLaws.{unvalued-noted}
 use Rattle.build_constants.specs.Named.{synonym_in}
-use Rattle.build_constants.specs.SynonymsSynonyms.{AreConstants, Settles, constant_of, named_by, scope_with, synonym_faults}
-use Rattle.build_constants.specs.SynonymsSynonyms as synonym
+use Rattle.build_constants.specs.SettledSynonyms.{AreConstants, Settles, constant_of, named_by, scope_with, synonym_faults}
+use Rattle.build_constants.specs.SettledSynonyms as synonym
 use Rattle.build_constants.specs.declared.synonyms.synonym.Synonym.{Synonym}
 use Rattle.sdl_system.specs.declared.sort.Sort as sorts
 use Rattle.sdl_tree.specs.Tree.{Expr, Named}

@@ -30,7 +30,7 @@ use Rattle.build_expressions.specs.declared.scope.ValueEntry.TheVariants as entr
 use Rattle.laws_sound_runs.proofs.ValueLemmas.{sort-kind}
 use Rattle.laws_sound_runs.specs.Scopes.{IsSoundConstant}
 use Rattle.build_names.specs.declared.scopes.scope.ScopeId.{ScopeId}
-use Rattle.build_constants.specs.SynonymsSynonyms.{Settles, constant_of, scope_with, synonym_faults}
+use Rattle.build_constants.specs.SettledSynonyms.{Settles, constant_of, scope_with, synonym_faults}
 use Rattle.build_constants.specs.declared.synonyms.synonym.Synonym.{Synonym}
 use Rattle.sdl_system.proofs.OperationLemmas.{takes_sort}
 use Rattle.sdl_system.specs.Sort.{as_sort, has_sort}

@@ -1,6 +1,6 @@
 //! What a take gives.
 
-use crate::got::Got;
+use crate::Got;
 
 /// The answer of a take.
 #[derive(PartialEq, Eq, Drop)]

@@ -4,9 +4,7 @@ ghost use Rattle.std.specs.Prelude.{◌≡◌, ◌+◌, ◌<◌, ◌≤◌, [], 
 ghost use Rattle.port_queue.specs.Views.{desk};
 
 use crate::rule::Pass;
-use crate::sender::Sender;
-use crate::shared::Port;
-use crate::steps;
+use crate::{Port, Sender, steps};
 use port_inbox::SenderNumber;
 use port_model::PortError;
 use std::marker::Model;

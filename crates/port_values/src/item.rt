@@ -1,7 +1,6 @@
 //! Signals, and their names as numbers.
 
-use crate::pid::Pid;
-use crate::values::Values;
+use crate::{Pid, Values};
 
 /// The name of a signal or of a timer, as its number in the system. Signals and timers share these numbers.
 #[derive(Clone, Copy, PartialEq, Eq, PartialOrd, Ord, Hash)]

@@ -2,8 +2,7 @@
 
 ghost use Rattle.std.specs.Prelude.{◌≡◌, ◌≤◌, length, IfOk, IsOk};
 
-use crate::item::SignalId;
-use crate::values::Values;
+use crate::{SignalId, Values};
 use std::alloc::AllocError;
 
 /// The key of a timer among those of its instance: name and values. A timer without parameters has no values.

@@ -1,3 +1,3 @@
 mod ChainLemmas
-mod LawLemmas
 mod ListLemmas
+mod LawLemmas

@@ -2,7 +2,8 @@
 //!
 //! `read_command_line` reads it by the crate `clap`, and answers help and mistakes at once; `chosen` tells which words
 //! choose what. Options are read within their ranges, so what is chosen can be done as it is. `overwritten_by` tells
-//! whether a file that is to be written, or compared with, is one of those that are read.
+//! whether a file that is to be written, or compared with, is one of those that are read. The module `views` draws and
+//! covers the run that was told, and `expected` compares what was written with what is expected of it.
 #![tactic(auto)]
 
 mod chart;

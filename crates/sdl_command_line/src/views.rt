@@ -2,9 +2,9 @@
 //! run covered of its specification.
 //!
 //! `draw` writes the chart; the ending of the file's name chooses its form (`Form`). Of what is drawn nothing is
-//! promised beyond what `view_chart::picture` and `view_text::msc` promise of a timeline of the run. `cover` writes the coverage, in a form
-//! that `coverage_form` chooses: it is what `view_coverage::covered` promises of a run, its texts and its report. `OutputFile` is
-//! the file: it takes the place of another one only once it is whole. `nobody` tells of a choice of instances that the
+//! promised beyond what `view_chart` and `view_text` promise of a timeline of the run. `cover` writes the coverage, in a
+//! form that `coverage_form` chooses: it is what `view_coverage` promises of a run, its texts and its report. `OutputFile`
+//! is the file: it takes the place of another one only once it is whole. `nobody` tells of a choice of instances that the
 //! run has none. `sent_signals` has the signals of a run to the environment, which a test may expect.
 
 mod chosen;

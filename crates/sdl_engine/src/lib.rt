@@ -1,9 +1,3 @@
-//! What comes in: a text and the script that goes with it, read whole, and parted into a specification and a script.
-//!
-//! `read_source` holds all that a `Source` has, up to a bound, or tells that it has more. `read_input` does so for a
-//! text alone. `Texts::parts` gives the two parts of what is held: the specification ends before the first line that is
-//! exactly `%script`, and the script follows that line. A script of its own takes the place of the one that follows.
-//!
 //! The whole tool over any reader and writer: `run_text` reads a specification with its script, and writes the
 //! canonical text, a run, or the one line that refuses the text. A run is told by its report, or in its order, as lines
 //! or as JSON. `run_and_note` does the same for a text and a script of its own, and tells a human more: why a text is
@@ -14,6 +8,10 @@
 //! The theorem of the tool is the contract of `run_text`; `run_and_note` has the same clauses. What is below it: an
 //! input that is read (`reading`), the way from there to a text or a run (`pipeline`), what is written of either
 //! (`answer`), of a run by the view (`views`, `order`), and what a human is told beside (`notes`, `explained`).
+//!
+//! `read_source` holds all that a `Source` has, up to a bound, or tells that it has more. `read_input` does so for a
+//! text alone. `Texts::parts` gives the two parts of what is held: the specification ends before the first line that is
+//! exactly `%script`, and the script follows that line. A script of its own takes the place of the one that follows.
 #![tactic(auto)]
 
 mod answer;

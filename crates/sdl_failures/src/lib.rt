@@ -1,7 +1,7 @@
 //! The failures of a run, said for a human: which instance failed, when, at which place of the text, and by what, with
 //! the line and a mark under the word.
 //!
-//! The place is found by `crate::replayed`, and in the tree of the text by `crate::located`. `blame` evaluates the
+//! The place is found by the module `replayed`, and in the tree of the text by `located`. `blame` evaluates the
 //! expression there once more, by the tree and by what it means side by side, as far as the word that fails. Which
 //! sentence is said, no contract speaks of; the ten that failed first are told, and how many more.
 #![tactic(auto)]

@@ -1,20 +1,16 @@
-//! The instances of a serial run, with ports of their own, and what is done to them.
-//!
-//! `Instances` has them by ascending number, and who of them lives. An act that one of them does in a step, the expiry
-//! of a timer, a line of the script, a new instance and one that has ended: each makes of the instances what the serial
-//! order (`serial_order`) says, and they stay those of a run, in which each that may have something to do is noted. How
-//! a run begins with them and how their records are closed stands here too. Whose turn it is stands in `serial_sweeps`,
-//! and the step in `serial_run`. Fuses by which no timer runs any more may be gone before they expire: that they make
-//! no difference, `Thinned` says.
-//!
 //! A serial run of a system (Z.101: system, agent), on one thread.
 //!
 //! `run_serial` makes the steps of all instances in sweeps by ascending number, lets the clock move only where all
 //! rest, expires the timers that are due then in their order, and hears the script's lines of that time in theirs: so
-//! do the sweeps (`serial_sweeps`), over instances with ports of their own (`serial_run`). A step of one of them is made
-//! here, and what it does to others is done behind it. The report is that of one execution, of all that happens
-//! (`serial_order`). `run_serial_heard` does the same, and lets a listener hear how far it is; `run_serial_noted` also
-//! keeps whose events it tells, one after the other.
+//! do the sweeps (`serial_sweeps`). A step of an instance is made here, and what it does to others is done behind it. The
+//! report is that of one execution, of all that happens (`serial_order`). `run_serial_heard` does the same, and lets a
+//! listener hear how far it is; `run_serial_noted` also keeps whose events it tells, one after the other.
+//!
+//! `Instances` has the instances by ascending number, each with a port of its own, and who of them lives. An act that one
+//! of them does in a step, the expiry of a timer, a line of the script, a new instance and one that has ended: each makes
+//! of the instances what the serial order says, and they stay those of a run, in which each that may have something to do
+//! is noted. How a run begins with them and how their records are closed stands there too. Fuses by which no timer runs
+//! any more may be gone before they expire: that they make no difference, `Thinned` says.
 #![tactic(auto)]
 
 mod doing;

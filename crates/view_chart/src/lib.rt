@@ -1,7 +1,7 @@
 //! A run as a message sequence chart (Z.120): what it shows, as data.
 //!
 //! `lay_out` says what a chart shows, in rows and columns: a function of a report, its system, its timeline and the
-//! lost signals of its script, and of a selection. `crate::picture` draws it. What a chart shows isn't promised by
+//! lost signals of its script, and of a selection. The module `picture` draws it. What a chart shows isn't promised by
 //! contracts, except what a selection has and how instances are named.
 //!
 //! Names are words of letters, digits and `_`, and values are numbers, truths and Pids. So nothing in the words of a

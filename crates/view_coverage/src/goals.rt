@@ -5,7 +5,7 @@
 //! or an asterisk. `input *` is one stimulus, whatever it stands for. What a state saves is not to be covered.
 //!
 //! The contract of `goals_of` says exactly which states and stimuli are listed, with their places, by the tree. No
-//! contract speaks of answers: the crate `test_coverage` compares them with lists by hand.
+//! contract speaks of answers: `test_tool` compares them with lists by hand.
 
 mod all;
 mod answer_list;

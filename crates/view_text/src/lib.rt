@@ -1,5 +1,7 @@
-//! A timeline, event by event: what every text of a timeline goes through, and how such a text goes out. And the
-//! signals of the script that no instance took: they have their places between the events.
+//! The texts of a timeline: as lines, as JSON, and in the words of Z.120 (the modules `lines`, `json`, `msc`).
+//!
+//! What each of them goes through, event by event, and how such a text goes out, stands beside them. So do the signals of
+//! the script that no instance took: they have their places between the events.
 #![tactic(auto)]
 
 mod arrival;

@@ -2,7 +2,7 @@
 
 ghost use Rattle.std.specs.Prelude.{◌≡◌, ◌<◌, ◌||◌, true, false, Some, map, length, slice_get, slice_set, IfOk, OnOk};
 ghost use Rattle.build_constants.specs.Known.{AreStuck, IsKnown, are_settled, count_open, is_settled_at};
-ghost use Rattle.build_constants.specs.SynonymsSynonyms.{AreConstants, named_by};
+ghost use Rattle.build_constants.specs.SettledSynonyms.{AreConstants, named_by};
 ghost use Rattle.build_constants.specs.declared.synonyms.synonym.Synonym as the_synonym;
 
 use crate::synonyms::order::order;

@@ -2,7 +2,7 @@
 
 ghost use Rattle.std.specs.Prelude.{◌≡◌, IfOk, OnOk};
 ghost use Rattle.build_names.specs.Faults.{Notes};
-ghost use Rattle.build_constants.specs.SynonymsSynonyms.{constant_with, named_by, synonym_faults};
+ghost use Rattle.build_constants.specs.SettledSynonyms.{constant_with, named_by, synonym_faults};
 
 use crate::synonyms::named::add_named;
 use build_expressions::{AgentMeaning, Constant, Scope, SignalMeaning, ValueEntry, constant};

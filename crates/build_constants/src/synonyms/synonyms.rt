@@ -2,7 +2,7 @@
 
 ghost use Rattle.std.specs.Prelude.{◌≡◌, flat_map, map, IfOk, OnOk};
 ghost use Rattle.build_names.specs.Faults.{Notes};
-ghost use Rattle.build_constants.specs.SynonymsSynonyms.{AreConstants, named_by, synonym_faults};
+ghost use Rattle.build_constants.specs.SettledSynonyms.{AreConstants, named_by, synonym_faults};
 
 use crate::synonyms::known::settle_all;
 use crate::synonyms::synonym::Synonym;

@@ -21,8 +21,8 @@ use std::io::Write;
 use std::thread;
 use std::thread::Threads;
 
-/// Writes a report, as `crate::report_text::write_report` does. At most `workers` threads make its text, the calling one among
-/// them; with one worker, or of a short report, the calling one alone.
+/// Writes a report, as `write_report` does. At most `workers` threads make its text, the calling one among them; with
+/// one worker, or of a short report, the calling one alone.
 ///
 /// The text isn't held whole: each thread makes the text of up to 65,536 lines, and then these texts go out. So each
 /// worker takes at most twice the bytes of so many lines, and a page of 33 KB, whatever the length of the report. Where

@@ -4,7 +4,7 @@ ghost use Rattle.std.specs.Prelude.{◌≡◌, IfSome};
 ghost use Rattle.port_queue.specs.Kept.{senders_of};
 ghost use Rattle.settle_checks.specs.Gathering.{IsCounted};
 
-use crate::gathered::fixed::Fixed;
+use crate::gathered::Fixed;
 use input_port::Held;
 use std::marker::{Model, PhantomData};
 use std::sync::Wait;

@@ -4,9 +4,7 @@ ghost use Rattle.std.specs.Prelude.{◌≡◌, ◌+◌, ◌≤◌, IfOk, OnOk};
 ghost use Rattle.threads_ports.specs.Peers.{put_by};
 ghost use Rattle.settle_checks.specs.Gathering.{PutNothing};
 
-use crate::gathered::counted::Counted;
-use crate::gathered::fault::Fault;
-use crate::gathered::fixed::Fixed;
+use crate::gathered::{Counted, Fault, Fixed};
 use input_port::{Held, Sender};
 use std::marker::{Model, PhantomData};
 use std::sync::Wait;

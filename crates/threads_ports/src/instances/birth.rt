@@ -2,9 +2,8 @@
 
 ghost use Rattle.std.specs.Prelude.{◌≡◌, [], IfOk};
 
-use crate::instances::seat::{MOST_SPLITS, Seat};
-use crate::instances::steps;
-use crate::instances::table::Table;
+use crate::instances::seat::MOST_SPLITS;
+use crate::instances::{Seat, Table, steps};
 use std::alloc::{AllocError, Global};
 
 /// A table from which no number is drawn, and its first seat. Refused for lack of memory.

@@ -5,8 +5,8 @@ ghost use Rattle.threads_ports.specs.Ends.{seat_of, IsSeat};
 ghost use Rattle.threads_ports.specs.Numbers.{EachOnce, AreOneTo};
 
 use crate::instances::rule::Place;
-use crate::instances::steps;
-use crate::instances::table::{MOST_NUMBERS, Table};
+use crate::instances::table::MOST_NUMBERS;
+use crate::instances::{Table, steps};
 use std::marker::Model;
 
 /// How many seats the first one can split off.

@@ -4,10 +4,8 @@ ghost use Rattle.std.specs.Prelude.{◌≡◌, ◌<◌, ◌≤◌, [], ◌∷◌
 ghost use Rattle.threads_ports.specs.Ends.{IsTable};
 ghost use Rattle.threads_ports.specs.Numbers.{times, EachOnce, AreOneTo};
 
-use crate::instances::full::Full;
 use crate::instances::rule::Word;
-use crate::instances::seat::Seat;
-use crate::instances::steps;
+use crate::instances::{Full, Seat, steps};
 use std::marker::Model;
 
 /// How many numbers there are: as many as there may be instances in a run.

@@ -13,9 +13,7 @@ ghost use Rattle.run_semantics.specs.World.{Sent};
 ghost use Rattle.run_record.specs.Event.{Event};
 ghost use Rattle.sdl_system.specs.declared.route.Dest.{Dest};
 
-use crate::senders::not_put::NotPut;
-use crate::senders::peer::Peer;
-use crate::senders::run::Run;
+use crate::senders::{NotPut, Peer, Run};
 use indexmap::IndexMap;
 use input_port::{Port, Sender};
 use port_inbox::{Fuse, Refused};

@@ -2,7 +2,7 @@ use Rattle.std.proofs.Common.{◌≡◌, ◌<◌, ◌∙◌, ap, arith, false, l
 use Rattle.std.proofs.lemmas.Option.{slice_get_read}
 use Rattle.build_constants.proofs.KnownLemmas.{fewer-open, named-here, never, one-more}
 use Rattle.build_constants.specs.Known.{IsKnown, are_settled, count_open, is_settled_at}
-use Rattle.build_constants.specs.SynonymsSynonyms.{constant_with, named_by}
+use Rattle.build_constants.specs.SettledSynonyms.{constant_with, named_by}
 use Rattle.build_constants.proofs.synonyms.known.settle.Goals as goal
 use Rattle.build_constants.proofs.synonyms.known.settle.Goals.{then-is_settled-via-then-is_settled, then-is_settled-via-else-is_settled+then-not-are_settled}
 

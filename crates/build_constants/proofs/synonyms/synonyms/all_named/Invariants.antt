@@ -1,5 +1,5 @@
 use Rattle.std.proofs.Common.{◌≡◌, map, take}
-use Rattle.build_constants.specs.SynonymsSynonyms.{named_by}
+use Rattle.build_constants.specs.SettledSynonyms.{named_by}
 use Rattle.build_constants.proofs.synonyms.synonyms.all_named.Given as goal
 
 abbrev pub invariant-loop-synonym : goal.invariant-loop-synonym

@@ -1,6 +1,6 @@
 use Rattle.std.proofs.Common.{flat_map, take}
 use Rattle.build_names.specs.Faults.{Notes}
-use Rattle.build_constants.specs.SynonymsSynonyms.{synonym_faults}
+use Rattle.build_constants.specs.SettledSynonyms.{synonym_faults}
 use Rattle.build_constants.proofs.synonyms.synonyms.note_faults.Given as goal
 
 abbrev pub invariant-loop-synonym : goal.invariant-loop-synonym
