@@ -45,7 +45,7 @@ proctype creator()
     :: goto refused
     fi;
 #endif
-    atomic { lives = true; version++ } /* sdl_instances: Roster::live */
+    atomic { lives = true; version++ } /* threads_ports: Roster::live */
     word = version; /* signs.rt: note_version */
     locked = false;
     goto done;
