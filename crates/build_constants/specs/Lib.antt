@@ -6,8 +6,8 @@ pub mod Laws
 pub mod Limit
 pub mod Named
 pub mod Scopes
+pub mod SettledSynonyms
 pub mod Synonyms
 pub mod SynonymsBroken
-pub mod SettledSynonyms
 pub mod Timers
 pub mod Variables

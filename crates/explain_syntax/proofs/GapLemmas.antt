@@ -3,8 +3,8 @@ use Rattle.std.proofs.Common.{◌≡◌, ◌∙◌, ℕ, List, Option, None, Som
 use Rattle.explain_syntax.specs.Cut.{cut_around}
 use Rattle.explain_syntax.specs.Gap.{GapValue, IsGapAt, begin_of, gap_of, names_from, read}
 use Rattle.explain_syntax.specs.declared.rests.cut.Cut.{Cut}
-use Rattle.parse_cursor.specs.PlacedWord.{word_of_placed}
-use Rattle.parse_cursor.specs.declared.word.PlacedWord.{PlacedWord}
+use Rattle.parse_expressions.specs.PlacedWord.{word_of_placed}
+use Rattle.parse_expressions.specs.declared.word.PlacedWord.{PlacedWord}
 use Rattle.sdl_lex.specs.Part.{Lexes}
 use Rattle.sdl_lex.specs.declared.place.Place.{Place}
 use Rattle.sdl_lex.specs.declared.token.Token.{Token}

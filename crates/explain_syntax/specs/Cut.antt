@@ -1,6 +1,6 @@
 -- Which words are left out around a fault.
 use Rattle.std.specs.Prelude.{ℕ, ◌+◌, ◌-◌, ◌&&◌, ◌||◌, nat_lt, not, Bool, true, false, List, Option, None, Some, option_and_then, option_map, slice_get, if◌then◌else◌}
-use Rattle.parse_cursor.specs.declared.word.PlacedWord.{PlacedWord}
+use Rattle.parse_expressions.specs.declared.word.PlacedWord.{PlacedWord}
 use Rattle.sdl_lex.specs.declared.place.Place.{Place}
 use Rattle.sdl_tree.specs.declared.mark.Mark.TheVariants as mark
 use Rattle.explain_syntax.specs.Scan.{end_after, has_semicolon, last_lead, next_end, opening_before, semicolon_after, word_at}

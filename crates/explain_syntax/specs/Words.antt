@@ -1,9 +1,9 @@
 -- What a word is.
 use Rattle.std.specs.Prelude.{◌==◌, ◌&&◌, ◌||◌, ℕ, Bool, true, false, List, Option, None, Some}
-use Rattle.parse_cursor.specs.Reading.{same_mark}
-use Rattle.parse_cursor.specs.declared.word.PlacedWord.{PlacedWord}
-use Rattle.parse_cursor.specs.declared.word.Word.{Word}
-use Rattle.parse_cursor.specs.declared.word.Word.TheVariants.{Fixed, Name, Number, Text, LeftOut}
+use Rattle.parse_expressions.specs.Reading.{same_mark}
+use Rattle.parse_expressions.specs.declared.word.PlacedWord.{PlacedWord}
+use Rattle.parse_expressions.specs.declared.word.Word.{Word}
+use Rattle.parse_expressions.specs.declared.word.Word.TheVariants.{Fixed, Name, Number, Text, LeftOut}
 use Rattle.sdl_lex.specs.declared.place.Place.{Place}
 use Rattle.sdl_tree.specs.declared.mark.Mark.{Mark}
 use Rattle.sdl_tree.specs.declared.mark.Mark.TheVariants as mark

@@ -6,7 +6,7 @@ use crate::lines::{Advice, Around, mark_of, name_of};
 use crate::open::missing_sentence;
 use crate::wanted_mark::mark_sentence;
 use crate::wanted_name::name_sentence;
-use parse_cursor::{PlacedWord, Wanted, Word};
+use parse_expressions::{PlacedWord, Wanted, Word};
 use sdl_tree::Mark;
 use std::alloc::{AllocError, Global};
 

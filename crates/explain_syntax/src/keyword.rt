@@ -4,7 +4,7 @@ use crate::habit::habit_sentence;
 use crate::lines::{Advice, Around, Nearest, lowered, mark_of, name_of};
 use crate::misplaced::continues_list;
 use crate::wanted_mark::is_end_of_path;
-use parse_cursor::Wanted;
+use parse_expressions::Wanted;
 use sdl_tree::{Mark, keyword_of};
 use std::alloc::{AllocError, Global};
 

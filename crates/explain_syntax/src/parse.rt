@@ -5,7 +5,7 @@ use crate::foreign::{COMMENT, foreign_advice};
 use crate::left_out::left_out_sentence;
 use crate::lines::{Advice, Around, Excerpt, about_marked, mark_of};
 use crate::memory::NO_MEMORY;
-use parse_cursor::Wanted;
+use parse_expressions::Wanted;
 use sdl_lex::{LexError, Place};
 use sdl_parse::ParseError;
 use sdl_tree::Mark;

@@ -3,7 +3,7 @@
 ghost use Rattle.std.specs.Prelude.{◌≡◌, MatchResult};
 ghost use Rattle.port_queue.specs.Ends.{newborn};
 
-use crate::Owner;
+use crate::owner::Owner;
 use port_model::PortError;
 use port_queue::{Desk, Port, steps};
 use std::alloc::Global;

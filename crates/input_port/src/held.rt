@@ -5,7 +5,8 @@ ghost use Rattle.std.specs.Prelude.{◌≡◌, [], true, length, not, All, IfSom
 ghost use Rattle.input_port.specs.Words.{due_times, signals_drawn, DrainIs, GatherHereIs, HasDrawnHere, IsKept, IsKnowing, IsLeast, IsTimely, LeaveIs};
 ghost use Rattle.port_queue.specs.Kept.{senders_of};
 
-use crate::{Owner, since};
+use crate::owner::Owner;
+use crate::since;
 use port_inbox::{Entry, Fuse, Inbox, Refused};
 use port_model::{PortError, Selection, Taken};
 use port_queue::refused::refused;

@@ -4,10 +4,10 @@ pub use Rattle.parse_expressions.specs.Expressions.{Readers, active_with, by_mar
 unfoldable pub use Rattle.parse_expressions.specs.Expressions.{active_of, deep_active, level, link, operator_at, paren_of, primary, readers, signed, unary_at, value_at}
 pub use Rattle.parse_expressions.specs.Parts.{closed, closing_by, end_name, ended, followed, followed_by, sees_one, signal_list_with, signal_set_with, signal_with, tied}
 unfoldable pub use Rattle.parse_expressions.specs.Parts.{closing, end, named, sig, signal, signal_list, signal_name, signal_set}
-pub use Rattle.parse_cursor.specs.PlacedWord.{word_of_placed}
-pub use Rattle.parse_cursor.specs.Reading.{Barred, Deep, Outcome, Parser, Refusal, Refused, and_then, another, before, behind, either, enclosed, in_parentheses, is_fixed, is_name, is_number, made, mark_by, maybe, on, pure, refuse, repeated, repeated_by, separated, too_deep, ◌⊗◌}
-unfoldable pub use Rattle.parse_cursor.specs.Reading.{expect, front, mark_at, name, number, repeated_from, rest, same_mark, sees, sees_name, sees_number, text}
-pub use Rattle.parse_cursor.specs.Reads.{Fails}
+pub use Rattle.parse_expressions.specs.PlacedWord.{word_of_placed}
+pub use Rattle.parse_expressions.specs.Reading.{Barred, Deep, Outcome, Parser, Refusal, Refused, and_then, another, before, behind, either, enclosed, in_parentheses, is_fixed, is_name, is_number, made, mark_by, maybe, on, pure, refuse, repeated, repeated_by, separated, too_deep, ◌⊗◌}
+unfoldable pub use Rattle.parse_expressions.specs.Reading.{expect, front, mark_at, name, number, repeated_from, rest, same_mark, sees, sees_name, sees_number, text}
+pub use Rattle.parse_expressions.specs.Reads.{Fails}
 pub use Rattle.sdl_tree.specs.Alike.{AreAlike}
 pub use Rattle.sdl_tree.specs.Depth.{IsOpening, OpensTooMany}
 pub use Rattle.sdl_tree.specs.Erased.{erased, erased_action, erased_actions, erased_answer, erased_applied, erased_assignment, erased_block, erased_block_part, erased_body_part, erased_bound, erased_channel, erased_clause, erased_condition, erased_connection, erased_counts, erased_definition, erased_destination, erased_end, erased_ending, erased_expr, erased_exprs, erased_fpar, erased_input, erased_inputs, erased_item, erased_links, erased_local, erased_name, erased_next_state, erased_number, erased_otherwise, erased_parameters, erased_parts, erased_path, erased_process, erased_saved, erased_signal, erased_signal_list, erased_signal_set, erased_sort, erased_start, erased_states, erased_stimulus, erased_synonym, erased_synonyms, erased_system_definition, erased_terminator, erased_timer, erased_timers, erased_transition, erased_variables, erased_word, plain}

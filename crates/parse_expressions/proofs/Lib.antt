@@ -5,8 +5,11 @@ pub mod ExpressionLaws
 pub mod Grammar
 pub mod Laws
 pub mod LevelLemmas
+pub mod LineLemmas
 pub mod ListLaws
 pub mod OperatorLaws
 pub mod PartLaws
 pub mod SignalLaws
 pub mod Steps
+pub mod TurnLemmas
+pub mod WordLemmas

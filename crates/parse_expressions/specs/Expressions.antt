@@ -12,7 +12,7 @@ use Rattle.sdl_tree.specs.declared.name.Spelling.{Spelling}
 use Rattle.sdl_tree.specs.Spells.Expressions.{value_mark, unary_mark, operator_mark, looseness, loosest}
 use Rattle.sdl_tree.specs.Tree.{Expr, Numeral, Named, Keyword, Active, Paren, Unary, Chain, Link, exprs_of, links_of}
 use Rattle.sdl_tree.specs.Words.{Words, Spot}
-use Rattle.parse_cursor.specs.Reading.{Parser, Refused, Deep, and_then, too_deep, refuse, on, ◌⊗◌, behind, before, made, either, maybe, mark_at, sees, sees_name, sees_number, expect, name, number, repeated, in_parentheses}
+use Rattle.parse_expressions.specs.Reading.{Parser, Refused, Deep, and_then, too_deep, refuse, on, ◌⊗◌, behind, before, made, either, maybe, mark_at, sees, sees_name, sees_number, expect, name, number, repeated, in_parentheses}
 
 -- the operator between two operands that a mark is
 abbrev pub operator_of : Mark → Option Operator

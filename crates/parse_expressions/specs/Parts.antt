@@ -7,7 +7,7 @@ use Rattle.sdl_tree.specs.declared.name.Spelling.{Spelling}
 use Rattle.sdl_tree.specs.Tree.{SignalListItem, SignalItem, ListItem, SignalDefinition, SignalListDefinition, SignalSet}
 use Rattle.sdl_tree.specs.Words.{Word, Words, Spot, Fixed}
 use Rattle.sdl_tree.specs.Words as word
-use Rattle.parse_cursor.specs.Reading.{Parser, Refused, and_then, ◌⊗◌, behind, before, made, either, front, rest, sees, expect, name, text, separated, in_parentheses}
+use Rattle.parse_expressions.specs.Reading.{Parser, Refused, and_then, ◌⊗◌, behind, before, made, either, front, rest, sees, expect, name, text, separated, in_parentheses}
 
 -- "comment" TEXT ";"
 abbrev pub commented : Parser (Unit {0})

@@ -4,11 +4,13 @@ ghost use Rattle.std.specs.Prelude.{◌≡◌, ◌-◌, ◌≤◌, map, option_m
 ghost use Rattle.sdl_tree.specs.Spells.Expressions as grammar;
 ghost use Rattle.sdl_tree.specs.Views.{expr_value, link_value, name_value};
 ghost use Rattle.parse_expressions.specs.Expressions as spec;
-ghost use Rattle.parse_cursor.specs.Reading.{in_parentheses, mark_at};
-ghost use Rattle.parse_cursor.specs.Reads.{Reads};
+ghost use Rattle.parse_expressions.specs.Reading.{in_parentheses, mark_at};
+ghost use Rattle.parse_expressions.specs.Reads.{Reads};
 
+use crate::cursor::Cursor;
+use crate::fault::{Fault, Wanted};
+use crate::lists::{Perhaps, Production, in_parentheses, repeated};
 use crate::place::{At, LOOSEST};
-use parse_cursor::{Cursor, Fault, Perhaps, Production, Wanted, in_parentheses, repeated};
 use sdl_tree::{
     Chain, Expression, KeywordValue, Link, Mark, Name, Operator, Spelling, UnaryOperator,
 };

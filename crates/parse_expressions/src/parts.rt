@@ -3,20 +3,21 @@
 ghost use Rattle.std.specs.Prelude.{map, string_bytes};
 ghost use Rattle.sdl_tree.specs.Views.{name_value, sort_value};
 ghost use Rattle.parse_expressions.specs.Parts as spec;
-ghost use Rattle.parse_cursor.specs.Reading as reading;
-ghost use Rattle.parse_cursor.specs.Reads.{Reads};
+ghost use Rattle.parse_expressions.specs.Reading as reading;
+ghost use Rattle.parse_expressions.specs.Reads.{Reads};
 
+use crate::cursor::Cursor;
+use crate::fault::{Fault, Wanted};
+use crate::lists::{Production, in_parentheses, separated};
 use crate::place::At;
-use parse_cursor::{
-    Cursor, Fault, PlacedWord, Production, Wanted, Word, in_parentheses, separated,
-};
+use crate::word::{PlacedWord, Word};
 use sdl_tree::{Mark, Name, SortName};
 use std::alloc::Global;
 
 impl Production<Name> for At {
     ghost use Rattle.sdl_tree.specs.Views.{name_value};
     ghost use Rattle.sdl_tree.specs.Words.{Spot};
-    ghost use Rattle.parse_cursor.specs.Reading.{name};
+    ghost use Rattle.parse_expressions.specs.Reading.{name};
 
     ghost Node = { Spot };
 
@@ -28,7 +29,7 @@ impl Production<Name> for At {
 impl Production<SortName> for At {
     ghost use Rattle.sdl_tree.specs.Views.{sort_value};
     ghost use Rattle.sdl_tree.specs.Words.{Spot};
-    ghost use Rattle.parse_cursor.specs.Reading.{name};
+    ghost use Rattle.parse_expressions.specs.Reading.{name};
 
     ghost Node = { Spot };
 

@@ -3,12 +3,14 @@
 ghost use Rattle.std.specs.Prelude.{map};
 ghost use Rattle.sdl_tree.specs.Views.{item_value, signal_list_value, signal_set_value, signal_value};
 ghost use Rattle.parse_expressions.specs.Parts as spec;
-ghost use Rattle.parse_cursor.specs.Reading.{separated};
-ghost use Rattle.parse_cursor.specs.Reads.{Reads};
+ghost use Rattle.parse_expressions.specs.Reading.{separated};
+ghost use Rattle.parse_expressions.specs.Reads.{Reads};
 
+use crate::cursor::Cursor;
+use crate::fault::Fault;
+use crate::lists::{Production, separated};
 use crate::parts::{end, sorts};
 use crate::place::At;
-use parse_cursor::{Cursor, Fault, Production, separated};
 use sdl_tree::{Mark, SignalDefinition, SignalListDefinition, SignalListItem, SignalSet};
 use std::alloc::Global;
 

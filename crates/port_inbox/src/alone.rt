@@ -4,9 +4,10 @@ ghost use Rattle.port_model.specs.Port.{empty_port, expires, is_spent, put_into}
 ghost use Rattle.port_inbox.specs.Calls.{after_entry, ComesBack};
 ghost use Rattle.port_inbox.specs.declared.entry.Entry.TheVariants.{Timer};
 
-use crate::entry::FuseParts;
-use crate::{Fuse, Inbox, Refused, fused};
-use port_model::{PlainPort, PortError, Selection, Taken};
+use crate::entry::{Fuse, FuseParts};
+use crate::fused;
+use crate::inbox::Inbox;
+use port_model::{PlainPort, PortError, Refused, Selection, Taken};
 use port_values::{Item, Ticks, TimerKey};
 use std::alloc::Global;
 use std::marker::Model;

@@ -11,8 +11,8 @@ ghost use Rattle.port_inbox.specs.Calls.{after_draw, after_entry};
 ghost use Rattle.port_inbox.specs.Left.{got_of, AreWaiting, HasItsFuse, IsFused};
 ghost use Rattle.port_inbox.specs.declared.entry.Entry.TheVariants.{Timer};
 
-use crate::entry::FuseParts;
-use crate::{Entry, Fuse, Placed};
+use crate::entry::{Entry, Fuse, FuseParts};
+use crate::placed::Placed;
 use port_model::{Got, PlainPort, PortError, PortParts, Selection, Taken, Timers};
 use port_values::{Ticks, TimerKey};
 use std::alloc::Global;

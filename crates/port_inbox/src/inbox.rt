@@ -6,7 +6,7 @@ ghost use Rattle.port_inbox.specs.Calls.{after_reset, after_stop, NothingWaits, 
 ghost use Rattle.port_inbox.specs.Ends.{OwnerState};
 ghost use Rattle.port_inbox.specs.declared.entry.Entry.{Entry};
 
-use crate::Fuse;
+use crate::entry::Fuse;
 use port_model::{PortError, Selection, Taken};
 use port_values::{Ticks, TimerKey};
 

@@ -3,7 +3,9 @@
 ghost use Rattle.std.specs.Prelude.{◌≡◌, ◌≤◌, if◌then◌else◌};
 ghost use Rattle.port_inbox.specs.Ends.{is_signal_entry};
 
-use crate::{Entry, PutCount, SenderNumber};
+use crate::entry::Entry;
+use crate::put_count::PutCount;
+use crate::sender_number::SenderNumber;
 use port_values::Ticks;
 
 /// An entry on its way into a port, with its sender and its place among the entries of that sender. `at` is the time of

@@ -9,9 +9,11 @@ ghost use Rattle.port_model.specs.Timers.{is_signal_of, without_signal};
 ghost use Rattle.port_model.specs.Wanted.{IsUnwanted, IsWanted};
 ghost use Rattle.port_model.specs.declared.selection.Class.TheVariants as class;
 
+use crate::got::Got;
 use crate::passed::Passed;
+use crate::search;
+use crate::selection::{Class, Selection};
 use crate::wanted::Wanted;
-use crate::{Class, Got, Selection, search};
 use port_values::TimerKey;
 use std::alloc::{AllocError, Global};
 use std::collections::VecDeque;

@@ -6,9 +6,10 @@ ghost use Rattle.port_model.specs.Passed.{entry_at, AreBefore, gots_in, holds_si
 ghost use Rattle.port_model.specs.Timers.{without_signal};
 ghost use Rattle.port_model.specs.Wanted.{IsUnwanted, IsWanted};
 
+use crate::got::Got;
 use crate::places::Places;
+use crate::selection::Selection;
 use crate::wanted::Wanted;
-use crate::{Got, Selection};
 use port_values::TimerKey;
 use std::alloc::Global;
 use std::collections::BTreeMap;

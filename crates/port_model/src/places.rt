@@ -2,8 +2,9 @@
 ghost use Rattle.std.specs.Prelude.{◌≡◌, false, min, IsTrue, MatchOption};
 ghost use Rattle.port_model.specs.Places.{HaveNames, IsBlank, IsFirstFrom, IsFirstWanted, IsNoted, IsSame, IsTimed, IsUnnoted, place_of, NoneFrom, NoneWanted};
 
+use crate::got::Got;
+use crate::selection::Selection;
 use crate::wanted::Wanted;
-use crate::{Got, Selection};
 use port_values::{SignalId, TimerKey};
 use std::alloc::Global;
 use std::collections::{BTreeMap, BTreeSet};

@@ -9,7 +9,12 @@ ghost use Rattle.port_model.specs.Timers.{after_taking, armed_after, due_times, 
 ghost use Rattle.port_model.specs.declared.selection.Class.TheVariants as class;
 
 use crate::backlog::{Backlog, Unsaved};
-use crate::{Class, Got, PortError, Refused, Selection, Taken, Timers};
+use crate::error::PortError;
+use crate::got::Got;
+use crate::refused::Refused;
+use crate::selection::{Class, Selection};
+use crate::taken::Taken;
+use crate::timers::Timers;
 use port_values::{Arm, Item, Ticks, TimerKey};
 use std::alloc::{AllocError, Global};
 use std::collections::VecDeque;

@@ -1,6 +1,6 @@
 //! What a refused call gives back.
 
-use crate::PortError;
+use crate::error::PortError;
 
 /// Why a call was refused, and what it was given, which comes back as it was or as the call says.
 #[derive(PartialEq, Eq, Drop)]

@@ -5,8 +5,9 @@ ghost use Rattle.port_model.specs.Search.{IsFirst};
 ghost use Rattle.port_model.specs.Timers.{is_signal_of, without_signal};
 ghost use Rattle.port_model.specs.Wanted.{IsUnwanted, IsWanted};
 
+use crate::got::Got;
+use crate::selection::Selection;
 use crate::wanted::Wanted;
-use crate::{Got, Selection};
 use port_values::TimerKey;
 use std::collections::VecDeque;
 

@@ -1,6 +1,6 @@
 //! What a take gives.
 
-use crate::Got;
+use crate::got::Got;
 
 /// The answer of a take.
 #[derive(PartialEq, Eq, Drop)]

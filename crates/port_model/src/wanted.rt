@@ -2,7 +2,7 @@
 ghost use Rattle.std.specs.Prelude.{◌≡◌};
 ghost use Rattle.port_model.specs.Wanted.{is_wanted};
 
-use crate::Class;
+use crate::selection::Class;
 
 /// Which entries a look through a port is for.
 #[derive(Clone, Copy)]

@@ -4,7 +4,9 @@ ghost use Rattle.std.specs.Prelude.{◌≡◌, ◌+◌, ◌<◌, ◌≤◌, [], 
 ghost use Rattle.port_queue.specs.Views.{desk};
 
 use crate::rule::Pass;
-use crate::{Port, Sender, steps};
+use crate::sender::Sender;
+use crate::shared::Port;
+use crate::steps;
 use port_inbox::SenderNumber;
 use port_model::PortError;
 use std::marker::Model;

@@ -5,9 +5,12 @@ ghost use Rattle.port_queue.specs.Kept.{senders_of, NotesSenders};
 ghost use Rattle.port_model.specs.Take.{Takes};
 ghost use Rattle.port_model.specs.declared.selection.Class.TheVariants as class;
 
+use crate::finished::Finished;
 use crate::refused::refused;
 use crate::rule::{Pass, Queue};
-use crate::{Finished, Port, Sender, steps};
+use crate::sender::Sender;
+use crate::shared::Port;
+use crate::steps;
 use port_inbox::{Entry, Fuse, Placed, Refused, fused};
 use port_model::{PlainPort, PortError, Selection, Taken};
 use port_values::{Ticks, TimerKey};

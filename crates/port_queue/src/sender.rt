@@ -5,7 +5,8 @@ ghost use Rattle.port_queue.specs.Words.{sender, sent_by, signals_by, IsDueBy, I
 
 use crate::refused::refused;
 use crate::rule::Pass;
-use crate::{Port, steps};
+use crate::shared::Port;
+use crate::steps;
 use port_inbox::{Entry, Fuse, Placed, PutCount, Refused, SenderNumber};
 use port_values::{Item, Ticks};
 use std::marker::Model;

@@ -1,6 +1,7 @@
 //! Signals, and their names as numbers.
 
-use crate::{Pid, Values};
+use crate::pid::Pid;
+use crate::values::Values;
 
 /// The name of a signal or of a timer, as its number in the system. Signals and timers share these numbers.
 #[derive(Clone, Copy, PartialEq, Eq, PartialOrd, Ord, Hash)]

@@ -2,7 +2,8 @@
 
 ghost use Rattle.std.specs.Prelude.{◌≡◌, ◌≤◌, length, IfOk, IsOk};
 
-use crate::{SignalId, Values};
+use crate::item::SignalId;
+use crate::values::Values;
 use std::alloc::AllocError;
 
 /// The key of a timer among those of its instance: name and values. A timer without parameters has no values.

@@ -3,7 +3,7 @@
 ghost use Rattle.std.specs.Prelude.{Some};
 ghost use Rattle.port_values.specs.Text.{value_text};
 
-use crate::Pid;
+use crate::pid::Pid;
 use std::fmt;
 
 /// A value of one of the predefined sorts. Times and durations are in ticks.

@@ -2,7 +2,7 @@
 
 ghost use Rattle.std.specs.Prelude.{◌≡◌, [], None, Some};
 
-use crate::KeptWords;
+use crate::kept_words::KeptWords;
 use std::alloc::Global;
 
 /// What is kept beside the record of an instance: of each step that is recorded how many entries were drawn after it,

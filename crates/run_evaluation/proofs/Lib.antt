@@ -1,3 +1,3 @@
 mod ChainLemmas
-mod ListLemmas
 mod LawLemmas
+mod ListLemmas

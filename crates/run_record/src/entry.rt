@@ -6,7 +6,7 @@ ghost use Rattle.run_record.specs.Event.{values_got};
 ghost use Rattle.run_record.specs.Entry.{got_from, got_of, sender_of, signal_got};
 ghost use Rattle.port_values.specs.declared.item.SignalId.{SignalId};
 
-use crate::Failure;
+use crate::failure::Failure;
 use port_model::Got;
 use port_values::{Pid, SignalId, Value};
 use sdl_system::{Dest, ProcessId, StateId, Target, VariableId};

@@ -5,8 +5,8 @@ ghost use Rattle.run_record.specs.Event as event;
 ghost use Rattle.run_record.specs.Event.{values_got};
 ghost use Rattle.run_record.specs.Record.{noted};
 
-use crate::Failure;
 use crate::entry::values_got;
+use crate::failure::Failure;
 use crate::packed::Packed;
 use crate::record::Record;
 use port_model::Got;

@@ -4,8 +4,8 @@ ghost use Rattle.std.specs.Prelude.{◌≡◌};
 ghost use Rattle.run_record.specs.Packed.{count_of, entry_at, is_event, origin_of, receiver_in, target_of, time_after};
 ghost use Rattle.run_record.specs.declared.entry.Entry.TheVariants as kept;
 
-use crate::Failure;
 use crate::entry::{Entry, Stimulus};
+use crate::failure::Failure;
 use crate::parts::{OriginKind, TargetKind};
 use port_values::{Pid, SignalId, Value};
 use sdl_system::{Dest, ProcessId, StateId, VariableId};

@@ -1,10 +1,10 @@
-pub mod Effect
 pub mod Behaves
+pub mod ControlPoint
+pub mod Effect
 pub mod Fails
 pub mod Goes
 pub mod Instance
 pub mod Leads
-pub mod ControlPoint
 pub mod Reception
 pub mod RunLaws
 pub mod Runs

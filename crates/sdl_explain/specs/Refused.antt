@@ -8,7 +8,7 @@ use Rattle.sdl_lex.specs.declared.error.LexError.TheVariants as lex
 use Rattle.sdl_lex.specs.declared.place.Place.{Place}
 use Rattle.sdl_parse.specs.declared.error.ParseError.{ParseError}
 use Rattle.sdl_parse.specs.declared.error.ParseError.TheVariants as parse
-use Rattle.parse_cursor.specs.declared.fault.Wanted.TheVariants as wants
+use Rattle.parse_expressions.specs.declared.fault.Wanted.TheVariants as wants
 use Rattle.sdl_script.specs.declared.script.ScriptError.{ScriptError}
 use Rattle.sdl_script.specs.declared.script.ScriptError.TheVariants as script
 use Rattle.explain_syntax.specs.Earlier.{IsEarlier, StandsBefore}

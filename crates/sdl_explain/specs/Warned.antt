@@ -1,7 +1,7 @@
 -- Warnings of a text, and what is said of them.
 use Rattle.std.specs.Prelude.{◌≡◌, ◌⊎◌, ℕ, ◌-◌, List, [], ◌++◌, None, Some, true, length, map, take}
-use Rattle.parse_cursor.specs.PlacedWord.{word_of_placed}
-use Rattle.parse_cursor.specs.declared.word.PlacedWord.{PlacedWord}
+use Rattle.parse_expressions.specs.PlacedWord.{word_of_placed}
+use Rattle.parse_expressions.specs.declared.word.PlacedWord.{PlacedWord}
 use Rattle.explain_syntax.specs.More.{more_text}
 use Rattle.sdl_explain.specs.Others.{IsNone}
 use Rattle.sdl_explain.specs.Refused.{IsShown}

@@ -9,7 +9,7 @@ use explain_syntax::{
     Around, Explanation, Other, earlier_place, earlier_word, opening_of, opening_sentence,
     parse_advice, unclosed_before,
 };
-use parse_cursor::Wanted;
+use parse_expressions::Wanted;
 use sdl_lex::{LexError, Place};
 use sdl_parse::ParseError;
 use sdl_tree::Mark;

@@ -11,7 +11,7 @@ use crate::refused::is_lack;
 use crate::sentence::warning_sentence;
 use crate::shown::shown_at;
 use explain_syntax::{Advice, Explanation, Origin, marked_word, push_more};
-use parse_cursor::placed_words;
+use parse_expressions::placed_words;
 use sdl_lex::lex;
 use sdl_parse::parse;
 use sdl_tree::Tree;

@@ -6,8 +6,8 @@ use Rattle.sdl_lex.specs.declared.token.Token.{Token}
 use Rattle.sdl_lex.specs.Part.{Lexes}
 use Rattle.sdl_tree.specs.declared.mark.Mark.TheVariants as mark
 use Rattle.sdl_tree.specs.Words as word
-use Rattle.parse_cursor.specs.declared.fault.Fault.{Fault}
-use Rattle.parse_cursor.specs.declared.fault.Fault.TheVariants as fault
+use Rattle.parse_expressions.specs.declared.fault.Fault.{Fault}
+use Rattle.parse_expressions.specs.declared.fault.Fault.TheVariants as fault
 use Rattle.sdl_parse.specs.declared.error.ParseError.{ParseError}
 use Rattle.sdl_parse.specs.declared.error.ParseError.TheVariants.{Expected, LeftOut, TooDeep, Memory}
 use Rattle.sdl_parse.specs.Parser.{StandsAt, TooMany, SpellsText, Refuses, TellsWord, IsPlaceOf, Tells}

@@ -3,7 +3,7 @@ use Rattle.std.proofs.Common.{◌≡◌, ℕ, Bool, suc, ◌+◌, ◌-◌, ◌<�
 use Rattle.std.proofs.lemmas.Grind.{common_steps}
 use Rattle.std.specs.List.{list_any}
 use Rattle.parse_expressions.proofs.Grammar.{Words, Deep, Action, Statement, Parser, front, rest, mark_at}
-use Rattle.parse_cursor.proofs.TurnLemmas.{map_push}
+use Rattle.parse_expressions.proofs.TurnLemmas.{map_push}
 use Rattle.sdl_parse.specs.Clauses.{look_at, found_by, comma_ahead}
 use Rattle.sdl_parse.specs.Transitions.{decision, decision_of, steps_from, trans}
 

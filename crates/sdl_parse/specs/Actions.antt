@@ -6,7 +6,7 @@ use Rattle.sdl_tree.specs.Tree.{Expr, Applied, Assignment, Destination, Action, 
 use Rattle.sdl_tree.specs.Words.{Spot}
 use Rattle.parse_expressions.specs.Expressions.{expr}
 use Rattle.parse_expressions.specs.Parts.{ended}
-use Rattle.parse_cursor.specs.Reading.{Parser, ◌⊗◌, behind, made, maybe, sees, expect, name, separated, enclosed, in_parentheses}
+use Rattle.parse_expressions.specs.Reading.{Parser, ◌⊗◌, behind, made, maybe, sees, expect, name, separated, enclosed, in_parentheses}
 
 abbrev pub assignment_with : Spot × Expr → Assignment
 assignment_with p = record { variable = p.0; value = p.1 }

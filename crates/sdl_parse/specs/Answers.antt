@@ -6,7 +6,7 @@ use Rattle.sdl_tree.specs.declared.name.Spelling.{Spelling}
 use Rattle.sdl_tree.specs.Spells.Expressions.{operator_mark}
 use Rattle.sdl_tree.specs.Tree.{Expr, Answer, Value, Range, Compared}
 use Rattle.parse_expressions.specs.Expressions.{expr, operator_at, marked, sees_operator}
-use Rattle.parse_cursor.specs.Reading.{Parser, ◌⊗◌, behind, made, either, maybe, sees}
+use Rattle.parse_expressions.specs.Reading.{Parser, ◌⊗◌, behind, made, either, maybe, sees}
 
 -- [":" expr]
 unfoldable pub range_end : ℕ → Parser (Option Expr)

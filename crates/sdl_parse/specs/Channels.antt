@@ -6,7 +6,7 @@ use Rattle.sdl_tree.specs.declared.name.Spelling.{Spelling}
 use Rattle.sdl_tree.specs.Tree.{SignalListItem, ChannelEnd, Env, Agent, ChannelPath, ChannelDefinition, Connection}
 use Rattle.sdl_tree.specs.Words.{Spot}
 use Rattle.parse_expressions.specs.Parts.{followed, ended, closing, tied, sig}
-use Rattle.parse_cursor.specs.Reading.{Parser, ◌⊗◌, behind, made, either, maybe, pure, sees, expect, name, separated}
+use Rattle.parse_expressions.specs.Reading.{Parser, ◌⊗◌, behind, made, either, maybe, pure, sees, expect, name, separated}
 
 -- point = "env" | NAME
 unfoldable pub point : Parser ChannelEnd

@@ -10,7 +10,7 @@ use Rattle.sdl_parse.specs.declared.behaviour.clauses.Look.TheVariants as looks
 use Rattle.sdl_parse.specs.Actions.{applied}
 use Rattle.parse_expressions.specs.Expressions.{expr}
 use Rattle.parse_expressions.specs.Parts.{ended}
-use Rattle.parse_cursor.specs.Reading.{Parser, ◌⊗◌, behind, before, made, either, mark_by, same_mark, expect, separated}
+use Rattle.parse_expressions.specs.Reading.{Parser, ◌⊗◌, behind, before, made, either, mark_by, same_mark, expect, separated}
 
 abbrev pub look_comma : ℕ → Look
 look_comma zero = looks.Comma

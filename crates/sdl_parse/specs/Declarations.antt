@@ -7,7 +7,7 @@ use Rattle.sdl_tree.specs.Tree.{Expr, ParameterGroup, FormalParameters, Variable
 use Rattle.sdl_tree.specs.Words.{Spot}
 use Rattle.parse_expressions.specs.Expressions.{expr}
 use Rattle.parse_expressions.specs.Parts.{ended}
-use Rattle.parse_cursor.specs.Reading.{Parser, ◌⊗◌, behind, made, maybe, sees, expect, name, separated, in_parentheses}
+use Rattle.parse_expressions.specs.Reading.{Parser, ◌⊗◌, behind, made, maybe, sees, expect, name, separated, in_parentheses}
 
 abbrev pub parameters_with : List Spot × Spot → ParameterGroup
 parameters_with p = record { names = p.0; sort = p.1 }

@@ -3,7 +3,7 @@ use Rattle.std.specs.Prelude.{ℕ, List, ◌++◌, codes}
 use Rattle.std.specs.String.{string_bytes}
 use Rattle.sdl_lex.specs.ErrorText.{lex_text}
 use Rattle.sdl_lex.specs.Place.{place_text}
-use Rattle.parse_cursor.specs.Wanted.{wanted_text}
+use Rattle.parse_expressions.specs.Wanted.{wanted_text}
 use Rattle.sdl_parse.specs.declared.error.ParseError.{ParseError}
 use Rattle.sdl_parse.specs.declared.error.ParseError.TheVariants as parse
 

@@ -5,8 +5,8 @@ use Rattle.sdl_lex.specs.declared.place.Place.{Place}
 use Rattle.sdl_lex.specs.declared.token.Token.{Token}
 use Rattle.sdl_lex.specs.LexError as lexer
 use Rattle.sdl_lex.specs.Part.{Lexes}
-use Rattle.parse_cursor.specs.declared.fault.Fault.{Fault}
-use Rattle.parse_cursor.specs.declared.fault.Fault.TheVariants as fault
+use Rattle.parse_expressions.specs.declared.fault.Fault.{Fault}
+use Rattle.parse_expressions.specs.declared.fault.Fault.TheVariants as fault
 use Rattle.sdl_tree.specs.Alike.{AreAlike}
 use Rattle.sdl_tree.specs.Depth.{OpensTooMany}
 use Rattle.sdl_tree.specs.Erased.{erased}

@@ -8,7 +8,7 @@ use Rattle.sdl_tree.specs.Words.{Word, Words, Spot, Fixed}
 use Rattle.sdl_tree.specs.Words as word
 use Rattle.parse_expressions.specs.Expressions.{expr}
 use Rattle.parse_expressions.specs.Parts.{followed, ended, closing, tied, sees_one, signal, signal_list, signal_set}
-use Rattle.parse_cursor.specs.Reading.{Parser, ◌⊗◌, behind, before, made, either, maybe, front, sees, expect, name, repeated}
+use Rattle.parse_expressions.specs.Reading.{Parser, ◌⊗◌, behind, before, made, either, maybe, front, sees, expect, name, repeated}
 use Rattle.sdl_parse.specs.States.{start, body_part}
 use Rattle.sdl_parse.specs.Declarations.{some_fpar, dcl, timer}
 use Rattle.sdl_parse.specs.Synonyms.{synonym}

@@ -10,7 +10,7 @@ use Rattle.sdl_tree.specs.Words.{Words, Spot}
 use Rattle.sdl_parse.specs.Stimuli.{stimulus}
 use Rattle.sdl_parse.specs.Transitions.{trans}
 use Rattle.parse_expressions.specs.Parts.{followed_by, ended, named, end_name, closed, sees_one}
-use Rattle.parse_cursor.specs.Reading.{Parser, pure, ◌⊗◌, behind, before, made, either, maybe, sees, expect, name, separated, repeated, in_parentheses}
+use Rattle.parse_expressions.specs.Reading.{Parser, pure, ◌⊗◌, behind, before, made, either, maybe, sees, expect, name, separated, repeated, in_parentheses}
 
 abbrev pub start_with : Spelling × Transition → Start
 start_with p = record { word = p.0; transition = p.1 }

@@ -8,7 +8,7 @@ use Rattle.sdl_tree.specs.Words.{Words, Spot}
 use Rattle.sdl_parse.specs.Transitions.{trans}
 use Rattle.parse_expressions.specs.Expressions.{expr}
 use Rattle.parse_expressions.specs.Parts.{ended, sees_one, sig}
-use Rattle.parse_cursor.specs.Reading.{Parser, Refusal, Refused, Barred, ◌⊗◌, behind, made, either, maybe, sees, sees_name, expect, name, number, separated, in_parentheses}
+use Rattle.parse_expressions.specs.Reading.{Parser, Refusal, Refused, Barred, ◌⊗◌, behind, made, either, maybe, sees, sees_name, expect, name, number, separated, in_parentheses}
 
 -- [NAME]
 unfoldable pub variable : Parser (Option Spot)

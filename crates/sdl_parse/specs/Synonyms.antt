@@ -6,7 +6,7 @@ use Rattle.sdl_tree.specs.Tree.{Expr, SynonymDefinition, SynonymDefinitions}
 use Rattle.sdl_tree.specs.Words.{Spot}
 use Rattle.parse_expressions.specs.Expressions.{expr}
 use Rattle.parse_expressions.specs.Parts.{ended}
-use Rattle.parse_cursor.specs.Reading.{Parser, ◌⊗◌, behind, made, expect, name, separated}
+use Rattle.parse_expressions.specs.Reading.{Parser, ◌⊗◌, behind, made, expect, name, separated}
 
 abbrev pub synonym_with : Spot × (Spot × Expr) → SynonymDefinition
 synonym_with p = record { name = p.0; sort = p.1.0; value = p.1.1 }

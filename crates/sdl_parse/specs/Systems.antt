@@ -7,7 +7,7 @@ use Rattle.sdl_tree.specs.declared.name.Spelling.{Spelling}
 use Rattle.sdl_tree.specs.Tree.{Definition, Signals, SignalList, Synonyms, Channel, Process, BlockPart, InBlock, Connect, BlockDefinition, SystemDefinition, InSystem, Block, Tree}
 use Rattle.sdl_tree.specs.Words.{Spot}
 use Rattle.parse_expressions.specs.Parts.{followed, ended, closing, tied, sees_one, signal, signal_list}
-use Rattle.parse_cursor.specs.Reading.{Parser, Refused, ◌⊗◌, behind, made, either, maybe, sees, expect, name, repeated}
+use Rattle.parse_expressions.specs.Reading.{Parser, Refused, ◌⊗◌, behind, made, either, maybe, sees, expect, name, repeated}
 use Rattle.sdl_parse.specs.Channels.{channel, connect}
 use Rattle.sdl_parse.specs.Processes.{process}
 use Rattle.sdl_parse.specs.Synonyms.{synonym}

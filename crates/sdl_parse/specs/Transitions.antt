@@ -10,7 +10,7 @@ use Rattle.sdl_parse.specs.Answers.{answer}
 use Rattle.sdl_parse.specs.Clauses.{set}
 use Rattle.parse_expressions.specs.Expressions.{expr}
 use Rattle.parse_expressions.specs.Parts.{ended, sees_one}
-use Rattle.parse_cursor.specs.Reading.{Parser, ◌>>=◌, pure, too_deep, refuse, ◌⊗◌, behind, before, made, either, maybe, sees, sees_name, expect, name, repeated, enclosed}
+use Rattle.parse_expressions.specs.Reading.{Parser, ◌>>=◌, pure, too_deep, refuse, ◌⊗◌, behind, before, made, either, maybe, sees, sees_name, expect, name, repeated, enclosed}
 
 -- ---- labels and terminators
 

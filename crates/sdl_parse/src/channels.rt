@@ -3,11 +3,11 @@
 ghost use Rattle.std.specs.Prelude.{option_map};
 ghost use Rattle.sdl_tree.specs.Views.{channel_value, connection_value, end_value, path_value};
 ghost use Rattle.sdl_parse.specs.Channels as spec;
-ghost use Rattle.parse_cursor.specs.Reads.{Reads};
+ghost use Rattle.parse_expressions.specs.Reads.{Reads};
 
-use parse_cursor::{Cursor, Fault, Wanted};
 use parse_expressions::parts::{closing, end, names};
 use parse_expressions::signals::sigs;
+use parse_expressions::{Cursor, Fault, Wanted};
 use sdl_tree::{ChannelConnection, ChannelDefinition, ChannelEnd, ChannelPath, Mark};
 use std::alloc::Global;
 
@@ -68,7 +68,7 @@ fn path(alloc: Global, cursor: &mut Cursor<'_, '_>) -> Result<ChannelPath, Fault
 }
 
 /// `point = "env" | NAME`
-#[tactic(auto, unfolding(crate::specs::Channels::point, parse_cursor::specs::Reading::name, parse_cursor::specs::Reading::sees_name))]
+#[tactic(auto, unfolding(crate::specs::Channels::point, parse_expressions::specs::Reading::name, parse_expressions::specs::Reading::sees_name))]
 fn point(alloc: Global, cursor: &mut Cursor<'_, '_>) -> Result<ChannelEnd, Fault>
     ensures { Reads end_value (spec.point cursor.old) result cursor.new }
 {

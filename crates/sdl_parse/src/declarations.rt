@@ -3,13 +3,13 @@
 ghost use Rattle.std.specs.Prelude.{◌≤◌, map, option_map};
 ghost use Rattle.sdl_tree.specs.Views.{expr_value, fpar_value, parameters_value, variables_value};
 ghost use Rattle.sdl_parse.specs.Declarations as spec;
-ghost use Rattle.parse_cursor.specs.Reads.{Reads};
+ghost use Rattle.parse_expressions.specs.Reads.{Reads};
 
 use crate::place::Defining;
-use parse_cursor::{Cursor, Fault, Production, separated};
 use parse_expressions::expressions::expression;
 use parse_expressions::parts::{end, names, sort};
 use parse_expressions::place::At;
+use parse_expressions::{Cursor, Fault, Production, separated};
 use sdl_tree::{Expression, FormalParameters, Mark, ParameterGroup, VariableGroup};
 use std::alloc::Global;
 

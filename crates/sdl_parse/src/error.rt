@@ -1,6 +1,6 @@
 //! Refusals of a text that is no specification.
 
-use parse_cursor::Wanted;
+use parse_expressions::Wanted;
 use sdl_lex::{LexError, Place};
 use std::error::Error;
 use std::fmt;

@@ -2,7 +2,7 @@
 //!
 //! `parse` answers the one tree that the text spells, places and spellings included, or one refusal. What each refusal
 //! says of the text stands in `specs/Parser`; of `Expected` alone no contract says its place and its word. The other
-//! functions read definitions; what a process does is read by `sdl_parse::behaviour`.
+//! functions read definitions; what a process does is read by `crate::behaviour`.
 #![tactic(auto)]
 
 mod behaviour;

@@ -2,14 +2,14 @@
 
 ghost use Rattle.std.specs.Prelude.{◌<◌, ◌↔◌, Some, None, IfErr, IfOk, IsErrOf, length};
 ghost use Rattle.sdl_parse.specs.Parser.{Refuses, SpellsText, Tells, TellsLeftOut};
-ghost use Rattle.parse_cursor.specs.PlacedWord.{word_of_placed};
-ghost use Rattle.parse_cursor.specs.Reading.{front};
+ghost use Rattle.parse_expressions.specs.PlacedWord.{word_of_placed};
+ghost use Rattle.parse_expressions.specs.Reading.{front};
 ghost use Rattle.sdl_tree.specs.Views.{tree_value};
 
 use crate::error::ParseError;
 use crate::system::specification;
-use parse_cursor::{Cursor, Fault, PlacedWord, Word, placed_words};
 use parse_expressions::place::LIMIT;
+use parse_expressions::{Cursor, Fault, PlacedWord, Word, placed_words};
 use sdl_lex::{LexError, Place, lex, place_of};
 use sdl_tree::Tree;
 use std::alloc::Global;

@@ -4,7 +4,7 @@ ghost use Rattle.std.specs.Prelude.{◌≡◌, ◌≤◌, option_map};
 ghost use Rattle.sdl_tree.specs.Views.{bound_value, counts_value, expr_value, local_value, process_value};
 ghost use Rattle.sdl_parse.specs.Processes as spec;
 ghost use Rattle.parse_expressions.specs.Parts.{sees_one};
-ghost use Rattle.parse_cursor.specs.Reads.{Reads};
+ghost use Rattle.parse_expressions.specs.Reads.{Reads};
 
 use crate::behaviour::place::Inside;
 use crate::behaviour::states::{body_part, start};
@@ -12,10 +12,10 @@ use crate::declarations::{dcl, fpar};
 use crate::place::Defining;
 use crate::synonyms::synonym;
 use crate::timers::timer;
-use parse_cursor::{Cursor, Fault, Perhaps, PlacedWord, Word, repeated};
 use parse_expressions::expressions::expression;
 use parse_expressions::parts::{closing, end};
 use parse_expressions::signals::{signal, signal_list, signal_set};
+use parse_expressions::{Cursor, Fault, Perhaps, PlacedWord, Word, repeated};
 use sdl_tree::{Bound, Counts, Expression, LocalDefinition, Mark, ProcessDefinition};
 use std::alloc::Global;
 

@@ -3,13 +3,13 @@
 ghost use Rattle.std.specs.Prelude.{◌≤◌};
 ghost use Rattle.sdl_tree.specs.Views.{synonym_value, synonyms_value};
 ghost use Rattle.sdl_parse.specs.Synonyms as spec;
-ghost use Rattle.parse_cursor.specs.Reads.{Reads};
+ghost use Rattle.parse_expressions.specs.Reads.{Reads};
 
 use crate::place::Defining;
-use parse_cursor::{Cursor, Fault, Production, separated};
 use parse_expressions::expressions::expression;
 use parse_expressions::parts::{end, sort};
 use parse_expressions::place::At;
+use parse_expressions::{Cursor, Fault, Production, separated};
 use sdl_tree::{Mark, SynonymDefinition, SynonymDefinitions};
 use std::alloc::Global;
 

@@ -4,15 +4,15 @@ ghost use Rattle.std.specs.Prelude.{◌≡◌, ◌≤◌, option_map};
 ghost use Rattle.sdl_tree.specs.Views.{block_part_value, block_value, definition_value, system_definition_value, tree_value};
 ghost use Rattle.sdl_parse.specs.Systems as spec;
 ghost use Rattle.parse_expressions.specs.Parts.{sees_one};
-ghost use Rattle.parse_cursor.specs.Reads.{Reads};
+ghost use Rattle.parse_expressions.specs.Reads.{Reads};
 
 use crate::channels::{channel, connect};
 use crate::place::Defining;
 use crate::processes::process;
 use crate::synonyms::synonym;
-use parse_cursor::{Cursor, Fault, Perhaps, Wanted, repeated};
 use parse_expressions::parts::{closing, end};
 use parse_expressions::signals::{signal, signal_list};
+use parse_expressions::{Cursor, Fault, Perhaps, Wanted, repeated};
 use sdl_tree::{BlockDefinition, BlockPart, Definition, Mark, SystemDefinition, Tree};
 use std::alloc::Global;
 
@@ -60,7 +60,7 @@ pub fn specification(
 }
 
 /// The end of the text.
-#[tactic(auto, unfolding(crate::specs::Systems::at_end, parse_cursor::specs::Reading::front))]
+#[tactic(auto, unfolding(crate::specs::Systems::at_end, parse_expressions::specs::Reading::front))]
 fn at_end(cursor: &mut Cursor<'_, '_>) -> Result<(), Fault>
     ensures { Reads (λ _. tt) (spec.at_end cursor.old) result cursor.new }
 {

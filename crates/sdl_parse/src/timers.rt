@@ -3,12 +3,12 @@
 ghost use Rattle.std.specs.Prelude.{◌≤◌};
 ghost use Rattle.sdl_tree.specs.Views.{timer_value, timers_value};
 ghost use Rattle.sdl_parse.specs.Declarations as spec;
-ghost use Rattle.parse_cursor.specs.Reads.{Reads};
+ghost use Rattle.parse_expressions.specs.Reads.{Reads};
 
 use crate::declarations::initial;
 use crate::place::Defining;
-use parse_cursor::{Cursor, Fault, Production, separated};
 use parse_expressions::parts::{end, sorts};
+use parse_expressions::{Cursor, Fault, Production, separated};
 use sdl_tree::{Mark, TimerDefinition, TimerDefinitions};
 use std::alloc::Global;
 

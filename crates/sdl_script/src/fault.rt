@@ -3,7 +3,7 @@
 ghost use Rattle.std.specs.Prelude.{◌≡◌};
 ghost use Rattle.sdl_script.specs.ScriptText.{refusal};
 
-use crate::ScriptError;
+use crate::script::ScriptError;
 use std::alloc::{AllocError, AllocFailed};
 
 /// The fault of a line whose number isn't known yet.

@@ -2,7 +2,7 @@
 
 ghost use Rattle.std.specs.Prelude.{◌≡◌, max, IfOk};
 
-use crate::Reader;
+use crate::reader::Reader;
 use crate::rule::{NewReader, Place, Raise, Word};
 use port_values::Ticks;
 use std::alloc::{AllocError, Global};

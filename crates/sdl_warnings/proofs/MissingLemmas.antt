@@ -1,7 +1,7 @@
 -- The same set of names by another description.
 use Rattle.std.proofs.Common.{◌≡◌, ◌++◌, ℕ, Bool, List, OnOk, Result, ◌∙◌}
 use Rattle.std.proofs.lemmas.Result.{on_ok_weaker}
-use Rattle.parse_cursor.specs.declared.word.PlacedWord.{PlacedWord}
+use Rattle.parse_expressions.specs.declared.word.PlacedWord.{PlacedWord}
 use Rattle.sdl_warnings.specs.Heads.{HeadValue, nowhere}
 use Rattle.sdl_warnings.specs.Missing.{missing}
 use Rattle.sdl_warnings.specs.Signals.{unsettled}

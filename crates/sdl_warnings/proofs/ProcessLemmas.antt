@@ -3,7 +3,7 @@ use Rattle.std.proofs.Common.{◌≡◌, ◌<◌, ◌≤◌, ◌+◌, ◌-◌, �
 use Rattle.std.proofs.lemmas.Bool.{cases_Bool}
 use Rattle.std.proofs.lemmas.List.{drop-drop, drop_all}
 use Rattle.std.specs.List.{flat_map, prefix_len}
-use Rattle.parse_cursor.specs.declared.word.PlacedWord.{PlacedWord}
+use Rattle.parse_expressions.specs.declared.word.PlacedWord.{PlacedWord}
 use Rattle.sdl_warnings.specs.Heads.{HeadValue}
 use Rattle.sdl_warnings.specs.Processes.{goes_on, of_part, parts, with_first}
 use Rattle.sdl_warnings.specs.declared.suspicion.Warning.{Warning}

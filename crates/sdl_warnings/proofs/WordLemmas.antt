@@ -1,7 +1,7 @@
 -- Words, one by one.
 use Rattle.std.proofs.Common.{◌≡◌, ◌==◌, ◌&&◌, not, Option, Some, ◌<◌, ◌≤◌, ◌+◌, ◌-◌, ◌++◌, ◌∷◌, [], ◌∙◌, ℕ, Bool, true, false, if◌then◌else◌, List, ap, append_assoc, arith, drop, get_or, length, length-drop, reverse, slice_range, sym, take}
 use Rattle.std.proofs.lemmas.List.{drop_more, get_or-drop, reverse-append, take_more}
-use Rattle.parse_cursor.specs.declared.word.PlacedWord.{PlacedWord}
+use Rattle.parse_expressions.specs.declared.word.PlacedWord.{PlacedWord}
 use Rattle.sdl_warnings.specs.Colons.{depth_after}
 use Rattle.sdl_warnings.specs.Decisions.{answered, closes, ended_at, listed, of_answer, of_answers, own_after, parts}
 use Rattle.sdl_warnings.specs.Loops.{is_closed, is_label, leads_out, loop_at, loops, over}

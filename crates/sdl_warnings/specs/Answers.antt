@@ -2,9 +2,9 @@
 use Rattle.std.specs.Prelude.{ℕ, ℤ, pos, negsuc, neg_ℤ, ◌≡◌, ◌≢◌, ◌-ℤ◌, ◌+ℤ◌, ◌+◌, ◌-◌, ◌^◌, ◌≤ℤ◌, ◌&&◌, ◌⊎◌, Bool, true, false, not, int_le, int_lt, List, [], ◌∷◌, Option, None, Some, drop, if◌then◌else◌, length, nat_lt, take}
 use Rattle.std.specs.Int.{saturate_signed, w64}
 use Rattle.std.specs.List.{prefix_len}
-use Rattle.parse_cursor.specs.declared.word.PlacedWord.{PlacedWord}
-use Rattle.parse_cursor.specs.declared.word.Word.{Word}
-use Rattle.parse_cursor.specs.declared.word.Word.TheVariants.{Fixed, Name, Number, Text, LeftOut}
+use Rattle.parse_expressions.specs.declared.word.PlacedWord.{PlacedWord}
+use Rattle.parse_expressions.specs.declared.word.Word.{Word}
+use Rattle.parse_expressions.specs.declared.word.Word.TheVariants.{Fixed, Name, Number, Text, LeftOut}
 use Rattle.sdl_tree.specs.declared.mark.Mark.{Mark}
 use Rattle.sdl_tree.specs.declared.mark.Mark.TheVariants as mark
 use Rattle.sdl_warnings.specs.Words.{is_mark, mark_in}

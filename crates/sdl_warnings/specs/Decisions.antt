@@ -1,7 +1,7 @@
 -- What is suspicious in decisions.
 use Rattle.std.specs.Prelude.{ℕ, ◌+◌, ◌-◌, ◌^◌, ◌==◌, ◌&&◌, ◌||◌, Bool, true, false, min, not, List, [], ◌∷◌, ◌++◌, None, if◌then◌else◌, take}
 use Rattle.std.specs.List.{list_any}
-use Rattle.parse_cursor.specs.declared.word.PlacedWord.{PlacedWord}
+use Rattle.parse_expressions.specs.declared.word.PlacedWord.{PlacedWord}
 use Rattle.sdl_lex.specs.declared.place.Place.{Place}
 use Rattle.sdl_tree.specs.declared.mark.Mark.TheVariants as mark
 use Rattle.sdl_warnings.specs.Answers.{is_empty, overlap, taken}

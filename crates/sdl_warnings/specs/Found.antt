@@ -1,7 +1,7 @@
 -- What is suspicious in a specification.
 use Rattle.std.specs.Prelude.{◌==◌, ◌&&◌, ◌||◌, Bool, List, [], ◌++◌, IsPermutation, map, nat_lt}
 use Rattle.std.specs.List.Sorted.{IsSortedBy}
-use Rattle.parse_cursor.specs.declared.word.PlacedWord.{PlacedWord}
+use Rattle.parse_expressions.specs.declared.word.PlacedWord.{PlacedWord}
 use Rattle.sdl_lex.specs.declared.place.Place.{Place}
 use Rattle.sdl_tree.specs.Tree.{Tree}
 use Rattle.sdl_tree.specs.declared.mark.Mark.TheVariants as mark

@@ -1,7 +1,7 @@
 -- Names in a list behind a keyword, as those of `state a, b;` or `output a(1), b to p;`.
 use Rattle.std.specs.Prelude.{ℕ, ◌+◌, ◌-◌, ◌^◌, min, ◌==◌, ◌&&◌, Bool, true, false, List, [], ◌∷◌, ◌++◌, Option, None, Some, nat_lt, if◌then◌else◌}
-use Rattle.parse_cursor.specs.declared.word.PlacedWord.{PlacedWord}
-use Rattle.parse_cursor.specs.Reading.{same_mark}
+use Rattle.parse_expressions.specs.declared.word.PlacedWord.{PlacedWord}
+use Rattle.parse_expressions.specs.Reading.{same_mark}
 use Rattle.sdl_lex.specs.declared.place.Place.{Place}
 use Rattle.sdl_tree.specs.declared.mark.Mark.{Mark}
 use Rattle.sdl_tree.specs.declared.mark.Mark.TheVariants as mark

@@ -1,7 +1,7 @@
 -- The words of a text, process by process.
 use Rattle.std.specs.Prelude.{Bool, not, List, [], ◌∷◌, ◌++◌, if◌then◌else◌}
 use Rattle.std.specs.List.{flat_map}
-use Rattle.parse_cursor.specs.declared.word.PlacedWord.{PlacedWord}
+use Rattle.parse_expressions.specs.declared.word.PlacedWord.{PlacedWord}
 use Rattle.sdl_tree.specs.declared.mark.Mark.TheVariants as mark
 use Rattle.sdl_warnings.specs.Heads.{HeadValue}
 use Rattle.sdl_warnings.specs.Missing.{unjoined, unreached, unused_timers, unused_variables}

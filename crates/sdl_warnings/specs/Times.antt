@@ -1,8 +1,8 @@
 -- Timers that are set to a time that is always the same.
 use Rattle.std.specs.Prelude.{ℕ, ◌==◌, ◌&&◌, ◌||◌, Bool, not, true, false, List, [], ◌∷◌, ◌++◌, if◌then◌else◌}
-use Rattle.parse_cursor.specs.declared.word.PlacedWord.{PlacedWord}
-use Rattle.parse_cursor.specs.declared.word.Word.{Word}
-use Rattle.parse_cursor.specs.declared.word.Word.TheVariants.{Fixed, Name, Number, Text, LeftOut}
+use Rattle.parse_expressions.specs.declared.word.PlacedWord.{PlacedWord}
+use Rattle.parse_expressions.specs.declared.word.Word.{Word}
+use Rattle.parse_expressions.specs.declared.word.Word.TheVariants.{Fixed, Name, Number, Text, LeftOut}
 use Rattle.sdl_lex.specs.declared.place.Place.{Place}
 use Rattle.sdl_tree.specs.declared.mark.Mark.TheVariants as mark
 use Rattle.sdl_warnings.specs.Heads.{HeadValue, after, heads, is_outside, nowhere}

@@ -1,6 +1,6 @@
 -- Names that are nowhere but where they are defined.
 use Rattle.std.specs.Prelude.{ℕ, Bool, List, [], ◌∷◌, ◌++◌, if◌then◌else◌, nat_lt}
-use Rattle.parse_cursor.specs.declared.word.PlacedWord.{PlacedWord}
+use Rattle.parse_expressions.specs.declared.word.PlacedWord.{PlacedWord}
 use Rattle.sdl_lex.specs.declared.place.Place.{Place}
 use Rattle.sdl_warnings.specs.Words.{times}
 use Rattle.sdl_warnings.specs.declared.defined.Defined.{Defined}

@@ -1,10 +1,10 @@
 -- What a word is.
 use Rattle.std.specs.Prelude.{ℕ, Bool, true, false, Option, None, Some, List, count_by}
 use Rattle.std.specs.Str.{bytes_eq}
-use Rattle.parse_cursor.specs.Reading.{same_mark}
-use Rattle.parse_cursor.specs.declared.word.PlacedWord.{PlacedWord}
-use Rattle.parse_cursor.specs.declared.word.Word.{Word}
-use Rattle.parse_cursor.specs.declared.word.Word.TheVariants.{Fixed, Name, Number, Text, LeftOut}
+use Rattle.parse_expressions.specs.Reading.{same_mark}
+use Rattle.parse_expressions.specs.declared.word.PlacedWord.{PlacedWord}
+use Rattle.parse_expressions.specs.declared.word.Word.{Word}
+use Rattle.parse_expressions.specs.declared.word.Word.TheVariants.{Fixed, Name, Number, Text, LeftOut}
 use Rattle.sdl_tree.specs.declared.mark.Mark.{Mark}
 
 abbrev pub fixed_by : Word → Option Mark

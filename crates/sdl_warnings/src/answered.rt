@@ -8,7 +8,7 @@ ghost use Rattle.sdl_warnings.specs.Words.{is_mark_by};
 use crate::answers::Taken;
 use crate::colons::depth_after;
 use crate::words::{is_mark, mark_of};
-use parse_cursor::PlacedWord;
+use parse_expressions::PlacedWord;
 use sdl_lex::Place;
 use sdl_tree::Mark;
 use std::alloc::{AllocError, Global};
@@ -169,7 +169,7 @@ impl Inside {
         self.inner == 0 && self.depth == 0 && is_mark(word, Mark::Open) && self.goes_on()
     }
 
-    #[tactic(auto, unfolding(parse_cursor::specs::Reading::same_mark))]
+    #[tactic(auto, unfolding(parse_expressions::specs::Reading::same_mark))]
     fn goes_on(self) -> bool
         ensures { result ≡ (is_mark_by mark.Semicolon self.before || is_mark_by mark.Colon self.before) }
     {

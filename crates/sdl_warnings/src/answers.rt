@@ -6,7 +6,7 @@ ghost use Rattle.sdl_warnings.specs.Answers.{alone, boolean, compared, have_numb
 ghost use Rattle.sdl_warnings.specs.Words.{mark_in};
 
 use crate::words::{is_mark, mark_of};
-use parse_cursor::{PlacedWord, Word};
+use parse_expressions::{PlacedWord, Word};
 use sdl_tree::Mark;
 
 /// What an answer takes.

@@ -7,7 +7,7 @@ ghost use Rattle.sdl_warnings.specs.Unset.{assigned, fresh, is_in_expression};
 
 use crate::heads::Head;
 use crate::words::{is_mark, is_name, name_of};
-use parse_cursor::PlacedWord;
+use parse_expressions::PlacedWord;
 use sdl_tree::Mark;
 use std::alloc::{AllocError, Global};
 

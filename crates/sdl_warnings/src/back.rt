@@ -5,7 +5,7 @@ ghost use Rattle.sdl_warnings.specs.Loops.{beginning, closed_after, ended_after,
 ghost use Rattle.sdl_warnings.specs.Words.{is_mark, is_name};
 
 use crate::words::{is_mark, is_name};
-use parse_cursor::PlacedWord;
+use parse_expressions::PlacedWord;
 use sdl_tree::Mark;
 
 /// How far back it is gone: over so many ends of decisions and of parentheses whose begins come before.

@@ -6,7 +6,7 @@ ghost use Rattle.sdl_warnings.specs.Heads.{head_value};
 
 use crate::heads::Head;
 use crate::words::{is_mark, name_of};
-use parse_cursor::PlacedWord;
+use parse_expressions::PlacedWord;
 use sdl_tree::Mark;
 use std::alloc::{AllocError, Global};
 

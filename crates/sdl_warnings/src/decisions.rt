@@ -10,7 +10,7 @@ use crate::answered::{Answered, answers, has_else};
 use crate::answers::Taken;
 use crate::suspicion::{Behaviour, Oddity};
 use crate::words::is_mark;
-use parse_cursor::PlacedWord;
+use parse_expressions::PlacedWord;
 use sdl_lex::Place;
 use sdl_tree::Mark;
 use std::alloc::{AllocError, Global};

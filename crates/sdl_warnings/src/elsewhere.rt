@@ -7,7 +7,7 @@ ghost use Rattle.sdl_warnings.specs.Words.{name_in};
 
 use crate::heads::{Head, Spot};
 use crate::words::name_of;
-use parse_cursor::PlacedWord;
+use parse_expressions::PlacedWord;
 use sdl_tree::Mark;
 use std::alloc::{AllocError, Global};
 

@@ -15,7 +15,7 @@ use crate::suspicion::Warning;
 use crate::timers::add_timers;
 use crate::unused::add_unused;
 use crate::variables::add_variables;
-use parse_cursor::PlacedWord;
+use parse_expressions::PlacedWord;
 use sdl_tree::{Mark, Tree};
 use std::alloc::{AllocError, Global};
 

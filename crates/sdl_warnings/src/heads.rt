@@ -4,7 +4,7 @@ ghost use Rattle.std.specs.Prelude.{◌≡◌, ◌==◌, ◌&&◌, ◌++◌, IfO
 ghost use Rattle.sdl_warnings.specs.Heads.{after, head_at, head_value, heads, inner, inner_at, is_outside, nowhere, with_mark};
 
 use crate::words::{mark_of, name_of};
-use parse_cursor::PlacedWord;
+use parse_expressions::PlacedWord;
 use sdl_lex::Place;
 use sdl_tree::Mark;
 use std::alloc::{AllocError, Global};
@@ -61,7 +61,7 @@ impl Spot {
         self.is_within && self.depth == 0
     }
 
-    #[tactic(auto, unfolding(parse_cursor::specs::Reading::same_mark))]
+    #[tactic(auto, unfolding(parse_expressions::specs::Reading::same_mark))]
     fn with_mark(self, list: Mark, mark: Mark) -> Spot
         ensures { result ≡ with_mark list self mark }
     {

@@ -6,7 +6,7 @@ ghost use Rattle.sdl_warnings.specs.Loops.{leads_back, loop_at, loops};
 use crate::back::is_closed;
 use crate::suspicion::{Behaviour, Oddity};
 use crate::words::{is_mark, name_of};
-use parse_cursor::PlacedWord;
+use parse_expressions::PlacedWord;
 use sdl_tree::Mark;
 use std::alloc::AllocError;
 

@@ -8,7 +8,7 @@ use crate::decisions::add_decisions;
 use crate::loops::add_loops;
 use crate::signals::add_signals;
 use crate::suspicion::{Oddity, Suspicion, Warning};
-use parse_cursor::PlacedWord;
+use parse_expressions::PlacedWord;
 use sdl_tree::Tree;
 use std::alloc::{AllocError, Global};
 

@@ -7,7 +7,7 @@ ghost use Rattle.sdl_warnings.specs.Words.{is_mark_by};
 
 use crate::heads::{Head, Spot, add_head};
 use crate::words::{is_mark, mark_of};
-use parse_cursor::PlacedWord;
+use parse_expressions::PlacedWord;
 use sdl_tree::Mark;
 use std::alloc::{AllocError, Global};
 
@@ -65,7 +65,7 @@ fn outside_after(
     }
 }
 
-#[tactic(auto, unfolding(parse_cursor::specs::Reading::same_mark))]
+#[tactic(auto, unfolding(parse_expressions::specs::Reading::same_mark))]
 fn is_that(before: Option<Mark>, mark: Mark) -> bool
     ensures { result ≡ is_mark_by mark before }
 {

@@ -5,7 +5,7 @@ ghost use Rattle.std.specs.List.{prefix_len};
 ghost use Rattle.sdl_warnings.specs.Processes.{goes_on};
 
 use crate::words::is_mark;
-use parse_cursor::PlacedWord;
+use parse_expressions::PlacedWord;
 use sdl_tree::Mark;
 
 /// Where the process ends in which a word is: the place of its `endprocess`, or how many words there are.

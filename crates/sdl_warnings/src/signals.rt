@@ -12,7 +12,7 @@ use crate::heads::{Head, heads};
 use crate::name_set::NameSet;
 use crate::paths::{addressed, carried, has_asterisk};
 use crate::suspicion::{Behaviour, Oddity};
-use parse_cursor::PlacedWord;
+use parse_expressions::PlacedWord;
 use sdl_tree::{Definition, Mark, SystemDefinition, Tree};
 use std::alloc::{AllocError, Global};
 

@@ -9,7 +9,7 @@ use crate::heads::heads;
 use crate::missing::add_missing;
 use crate::name_set::NameSet;
 use crate::suspicion::{Suspicion, Warning};
-use parse_cursor::PlacedWord;
+use parse_expressions::PlacedWord;
 use sdl_tree::Mark;
 use std::alloc::{AllocError, Global};
 

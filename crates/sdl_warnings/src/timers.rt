@@ -14,7 +14,7 @@ use crate::name_set::NameSet;
 use crate::suspicion::{Suspicion, Warning};
 use crate::unused::repeated;
 use crate::words::{is_mark, is_number, name_of};
-use parse_cursor::PlacedWord;
+use parse_expressions::PlacedWord;
 use sdl_lex::Place;
 use sdl_tree::Mark;
 use std::alloc::{AllocError, Global};

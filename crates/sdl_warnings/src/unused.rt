@@ -9,7 +9,7 @@ use crate::defined::{Defined, Names};
 use crate::name_set::NameSet;
 use crate::suspicion::Warning;
 use crate::words::name_of;
-use parse_cursor::PlacedWord;
+use parse_expressions::PlacedWord;
 use std::alloc::{AllocError, Global};
 
 /// Adds the names that are defined and are nowhere else in the text.

@@ -15,7 +15,7 @@ use crate::name_set::NameSet;
 use crate::suspicion::{Suspicion, Warning};
 use crate::uninitialized::uninitialized;
 use crate::unused::repeated;
-use parse_cursor::PlacedWord;
+use parse_expressions::PlacedWord;
 use sdl_tree::Mark;
 use std::alloc::{AllocError, Global};
 

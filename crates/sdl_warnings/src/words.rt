@@ -3,7 +3,7 @@
 ghost use Rattle.std.specs.Prelude.{◌≡◌, option_map};
 ghost use Rattle.sdl_warnings.specs.Words.{is_mark, is_name, is_number, mark_in, name_in};
 
-use parse_cursor::{PlacedWord, Word};
+use parse_expressions::{PlacedWord, Word};
 use sdl_tree::Mark;
 
 /// The keyword or mark that a word is.
@@ -17,7 +17,7 @@ pub fn mark_of(word: PlacedWord<'_>) -> Option<Mark>
 }
 
 /// Whether a word is this mark.
-#[tactic(auto, unfolding(parse_cursor::specs::Reading::same_mark))]
+#[tactic(auto, unfolding(parse_expressions::specs::Reading::same_mark))]
 pub fn is_mark(word: PlacedWord<'_>, mark: Mark) -> bool
     ensures { result ≡ is_mark mark word.entry }
 {

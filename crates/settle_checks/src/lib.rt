@@ -1,5 +1,5 @@
 //! Checks over the records of a run that is over, by which its report is whole or cut as `settle_meaning` says, beside those
-//! over their summaries, which `settle_checks::summing` has.
+//! over their summaries, which `crate::summing` has.
 //!
 //! Each function answers whether one clause holds, and may be wrong in one way alone: what it answers with `true` holds.
 //! They look at records, the system and the script, and at nothing of how the run went. So no schedule can deceive them.

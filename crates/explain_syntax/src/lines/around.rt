@@ -1,7 +1,7 @@
 //! The words around a place at which no reading goes on.
 
 use crate::lines::words::{mark_of, words_of};
-use parse_cursor::{PlacedWord, Word};
+use parse_expressions::{PlacedWord, Word};
 use sdl_lex::Place;
 use sdl_tree::Mark;
 use std::alloc::{AllocError, Global};

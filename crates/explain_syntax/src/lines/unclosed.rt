@@ -2,7 +2,7 @@
 
 use crate::lines::opening::opened_by;
 use crate::lines::words::{mark_of, words_of};
-use parse_cursor::PlacedWord;
+use parse_expressions::PlacedWord;
 use sdl_lex::Place;
 use sdl_tree::Mark;
 use std::alloc::{AllocError, Global};

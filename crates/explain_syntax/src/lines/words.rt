@@ -1,6 +1,6 @@
 //! The words of a text.
 
-use parse_cursor::{PlacedWord, Word, placed_words};
+use parse_expressions::{PlacedWord, Word, placed_words};
 use sdl_lex::lex;
 use sdl_tree::Mark;
 use std::alloc::{AllocError, Global};

@@ -7,7 +7,7 @@ use crate::rests::scan::{
     end_after, has_semicolon, last_lead, next_end, opening_before, semicolon_after, word_at,
 };
 use crate::rests::words::{is_action, is_closed, is_mark, is_mark_at, name_of};
-use parse_cursor::PlacedWord;
+use parse_expressions::PlacedWord;
 use sdl_lex::Place;
 use sdl_tree::Mark;
 

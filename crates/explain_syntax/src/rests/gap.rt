@@ -7,7 +7,7 @@ ghost use Rattle.explain_syntax.specs.Words.{name_in};
 
 use crate::rests::cut::Cut;
 use crate::rests::words::{is_at, is_definition_at, is_mark_at, name_of};
-use parse_cursor::{PlacedWord, placed_words};
+use parse_expressions::{PlacedWord, placed_words};
 use sdl_lex::{LexError, Place, Token, lex};
 use sdl_tree::Mark;
 use std::alloc::{AllocError, Global};

@@ -4,7 +4,7 @@ ghost use Rattle.std.specs.Prelude.{◌≡◌, ◌<◌, IfSome, length, slice_ge
 ghost use Rattle.explain_syntax.specs.Scan as scan;
 
 use crate::rests::words::{is_at, is_lead, is_mark, is_mark_at, is_stimulus_or_end};
-use parse_cursor::PlacedWord;
+use parse_expressions::PlacedWord;
 use sdl_lex::Place;
 use sdl_tree::Mark;
 

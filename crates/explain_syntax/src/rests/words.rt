@@ -3,12 +3,12 @@
 ghost use Rattle.std.specs.Prelude.{◌≡◌, option_map, slice_get};
 ghost use Rattle.explain_syntax.specs.Words as spec;
 
-use parse_cursor::{PlacedWord, Word};
+use parse_expressions::{PlacedWord, Word};
 use sdl_lex::Place;
 use sdl_tree::Mark;
 
 /// Whether a word is this mark.
-#[tactic(auto, unfolding(parse_cursor::specs::Reading::same_mark))]
+#[tactic(auto, unfolding(parse_expressions::specs::Reading::same_mark))]
 pub fn is_mark(word: PlacedWord<'_>, mark: Mark) -> bool
     ensures { result ≡ spec.is_mark mark word.entry }
 {

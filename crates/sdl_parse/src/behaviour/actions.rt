@@ -3,13 +3,13 @@
 ghost use Rattle.std.specs.Prelude.{◌≤◌, option_map};
 ghost use Rattle.sdl_tree.specs.Views.{action_value, applied_value, assignment_value, destination_value, group_value};
 ghost use Rattle.sdl_parse.specs.Actions as spec;
-ghost use Rattle.parse_cursor.specs.Reads.{Reads};
+ghost use Rattle.parse_expressions.specs.Reads.{Reads};
 
 use crate::behaviour::optional::taken;
 use crate::behaviour::place::Inside;
-use parse_cursor::{Cursor, Fault, Production, enclosed, separated};
 use parse_expressions::expressions::{arguments, expression};
 use parse_expressions::parts::end;
+use parse_expressions::{Cursor, Fault, Production, enclosed, separated};
 use sdl_tree::{Action, Applied, Assignment, Destination, Mark, ResetGroup};
 use std::alloc::Global;
 

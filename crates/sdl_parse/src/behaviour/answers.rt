@@ -3,12 +3,12 @@
 ghost use Rattle.std.specs.Prelude.{◌≤◌, option_map};
 ghost use Rattle.sdl_tree.specs.Views.{answer_value, expr_value};
 ghost use Rattle.sdl_parse.specs.Answers as spec;
-ghost use Rattle.parse_cursor.specs.Reads.{Reads};
+ghost use Rattle.parse_expressions.specs.Reads.{Reads};
 
 use crate::behaviour::optional::taken;
 use crate::behaviour::place::Inside;
-use parse_cursor::{Cursor, Fault, Production};
 use parse_expressions::expressions::{expression, operator_at};
+use parse_expressions::{Cursor, Fault, Production};
 use sdl_tree::{Answer, Expression, Mark};
 use std::alloc::Global;
 

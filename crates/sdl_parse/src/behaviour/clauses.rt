@@ -3,13 +3,13 @@
 ghost use Rattle.std.specs.Prelude.{◌≡◌, ◌+◌, ◌<◌, ◌≤◌};
 ghost use Rattle.sdl_tree.specs.Views.{action_value, clause_value};
 ghost use Rattle.sdl_parse.specs.Clauses as spec;
-ghost use Rattle.parse_cursor.specs.Reads.{Reads};
+ghost use Rattle.parse_expressions.specs.Reads.{Reads};
 
 use crate::behaviour::actions::applied;
 use crate::behaviour::place::Inside;
-use parse_cursor::{Cursor, Fault, Production, separated};
 use parse_expressions::expressions::expression;
 use parse_expressions::parts::end;
+use parse_expressions::{Cursor, Fault, Production, separated};
 use sdl_tree::{Action, Mark, SetClause};
 use std::alloc::Global;
 
@@ -107,7 +107,7 @@ enum Look {
 }
 
 /// Looks at a word inside this many parentheses of the clause. `mark` is its mark, if it is one.
-#[tactic(auto, unfolding(crate::specs::Clauses::look_at, parse_cursor::specs::Reading::same_mark))]
+#[tactic(auto, unfolding(crate::specs::Clauses::look_at, parse_expressions::specs::Reading::same_mark))]
 fn look_at(inside: usize, mark: Option<Mark>) -> Look
     requires { inside < usize.MAX }
     ensures found { result ≡ spec.look_at inside mark }

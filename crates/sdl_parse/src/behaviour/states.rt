@@ -4,16 +4,18 @@ ghost use Rattle.std.specs.Prelude.{◌≡◌, ◌≤◌, map, option_map, strin
 ghost use Rattle.std.specs.List.{list_any};
 ghost use Rattle.std.specs.Str.{bytes_eq};
 ghost use Rattle.sdl_tree.specs.Views.{body_part_value, name_value, start_value, states_value};
-ghost use Rattle.parse_cursor.specs.Reads.{Reads};
+ghost use Rattle.parse_expressions.specs.Reads.{Reads};
 ghost use Rattle.sdl_parse.specs.States as spec;
 
 use crate::behaviour::optional::taken;
 use crate::behaviour::place::Inside;
 use crate::behaviour::stimuli::stimulus;
 use crate::behaviour::transitions::transition;
-use parse_cursor::{Cursor, Fault, Perhaps, PlacedWord, Wanted, Word, in_parentheses, repeated};
 use parse_expressions::parts::{end, end_name, name, names};
 use parse_expressions::place::At;
+use parse_expressions::{
+    Cursor, Fault, Perhaps, PlacedWord, Wanted, Word, in_parentheses, repeated,
+};
 use sdl_tree::{BodyPart, FreeAction, Mark, Name, Start, StatePart, States};
 use std::alloc::Global;
 

@@ -3,15 +3,15 @@
 ghost use Rattle.std.specs.Prelude.{◌≡◌, ◌≤◌, option_map};
 ghost use Rattle.sdl_tree.specs.Views.{condition_value, input_value, inputs_value, name_value, number_value, saved_value, stimulus_value};
 ghost use Rattle.sdl_parse.specs.Stimuli as spec;
-ghost use Rattle.parse_cursor.specs.Reads.{Reads};
+ghost use Rattle.parse_expressions.specs.Reads.{Reads};
 
 use crate::behaviour::optional::taken;
 use crate::behaviour::place::Inside;
 use crate::behaviour::transitions::transition;
-use parse_cursor::{Cursor, Fault, Perhaps, Production, in_parentheses, separated};
 use parse_expressions::expressions::expression;
 use parse_expressions::parts::end;
 use parse_expressions::signals::sigs;
+use parse_expressions::{Cursor, Fault, Perhaps, Production, in_parentheses, separated};
 use sdl_tree::{
     ContinuousSignal, EnablingCondition, Input, InputPart, Inputs, Mark, Name, Number,
     PriorityInput, SavePart, Saved, Stimulus,

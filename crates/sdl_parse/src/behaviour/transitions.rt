@@ -3,8 +3,8 @@
 ghost use Rattle.std.specs.Prelude.{◌≡◌, ◌≤◌, Some, map, option_map};
 ghost use Rattle.sdl_tree.specs.Views.{action_value, answer_value, answer_part_value, ending_value, expr_value, name_value, next_state_value, statement_value, terminator_value, transition_value};
 ghost use Rattle.sdl_parse.specs.Transitions as spec;
-ghost use Rattle.parse_cursor.specs.Reading.{◌⊗◌, behind, expect, made};
-ghost use Rattle.parse_cursor.specs.Reads.{Reads};
+ghost use Rattle.parse_expressions.specs.Reading.{◌⊗◌, behind, expect, made};
+ghost use Rattle.parse_expressions.specs.Reads.{Reads};
 ghost use Rattle.parse_expressions.specs.Expressions.{expr};
 ghost use Rattle.parse_expressions.specs.Parts as part_readings;
 ghost use Rattle.sdl_tree.specs.declared.mark.Mark.TheVariants as mark;
@@ -14,9 +14,9 @@ use crate::behaviour::answers::answer;
 use crate::behaviour::clauses::set;
 use crate::behaviour::optional::taken;
 use crate::behaviour::place::Inside;
-use parse_cursor::{Cursor, Fault, Perhaps, Wanted, enclosed, repeated};
 use parse_expressions::expressions::expression;
 use parse_expressions::parts::end;
+use parse_expressions::{Cursor, Fault, Perhaps, Wanted, enclosed, repeated};
 use sdl_tree::{
     Action, ActionStatement, Answer, AnswerPart, Expression, Mark, Name, NextState, Spelling,
     Terminator, TerminatorStatement, Transition,

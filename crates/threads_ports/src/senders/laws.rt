@@ -15,7 +15,7 @@ pub fn others_put_nothing()
 {}
 
 /// Once a port knows all that a sender had seen, as after it has gathered it, the row of the sender holds, by which
-/// `threads_ports::senders` counts what was drawn.
+/// `crate::senders` counts what was drawn.
 pub fn senders_fill_rows()
     ensures { SendersFillRows }
 {}

@@ -2,7 +2,7 @@
 
 use crate::goals::goal::AnswerGoal;
 use crate::goals::scan::Scan;
-use parse_cursor::placed_words;
+use parse_expressions::placed_words;
 use sdl_lex::lex;
 use std::alloc::{AllocError, Global};
 

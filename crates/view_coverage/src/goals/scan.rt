@@ -2,7 +2,7 @@
 
 use crate::goals::goal::AnswerGoal;
 use build_definitions::next_number;
-use parse_cursor::{PlacedWord, Word};
+use parse_expressions::{PlacedWord, Word};
 use sdl_lex::{Place, Token};
 use sdl_system::ProcessId;
 use sdl_tree::Mark;

@@ -1,9 +1,9 @@
 use Rattle.std.proofs.Common.{◌≡◌, ◌++◌, All, length, map, take}
 use Rattle.sdl_lex.specs.Place.{place_after}
 use Rattle.sdl_lex.specs.Token.{InOrder, IsSlice}
-use Rattle.parse_cursor.specs.PlacedWord.{word_of_placed}
+use Rattle.parse_expressions.specs.PlacedWord.{word_of_placed}
 use Rattle.sdl_tree.specs.Words.{words_of}
-use Rattle.parse_cursor.proofs.word.placed_words.Given as goal
+use Rattle.parse_expressions.proofs.word.placed_words.Given as goal
 
 abbrev pub invariant-rest : goal.invariant-rest
 invariant-rest l = record {

@@ -3,10 +3,10 @@ use Rattle.sdl_lex.specs.declared.place.Place.{Place}
 use Rattle.sdl_lex.specs.Place.{place_after}
 use Rattle.sdl_lex.specs.Token.{InOrder}
 use Rattle.sdl_tree.specs.Words.{words_of}
-use Rattle.parse_cursor.specs.declared.word.Searched.{Searched}
-use Rattle.parse_cursor.proofs.LineLemmas.{behind_order, behind_placed, column_fits}
-use Rattle.parse_cursor.proofs.WordLemmas.{opened, read_on, slice_first, slices_after}
-use Rattle.parse_cursor.proofs.word.placed_words.Goals as goal
+use Rattle.parse_expressions.specs.declared.word.Searched.{Searched}
+use Rattle.parse_expressions.proofs.LineLemmas.{behind_order, behind_placed, column_fits}
+use Rattle.parse_expressions.proofs.WordLemmas.{opened, read_on, slice_first, slices_after}
+use Rattle.parse_expressions.proofs.word.placed_words.Goals as goal
 
 pub moved-place-requires-clause-within : goal.moved-place-requires-clause-within
 moved-place-requires-clause-within c =

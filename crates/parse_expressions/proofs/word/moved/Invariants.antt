@@ -2,7 +2,7 @@
 use Rattle.std.proofs.Common.{◌≡◌, ◌+◌, ◌≤◌, take}
 use Rattle.std.specs.List.{count_by}
 use Rattle.sdl_lex.specs.Place.{is_line_end, last_line_len}
-use Rattle.parse_cursor.proofs.word.moved.Given as goal
+use Rattle.parse_expressions.proofs.word.moved.Given as goal
 
 abbrev pub invariant-loop-at : goal.invariant-loop-at
 invariant-loop-at l =

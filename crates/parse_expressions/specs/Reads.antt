@@ -1,9 +1,9 @@
 -- What a function that reads ensures: what its parser gives, unless memory fails.
 use Rattle.std.specs.Prelude.{◌≡◌, Result, Ok, Err}
 use Rattle.sdl_tree.specs.Words.{Words}
-use Rattle.parse_cursor.specs.declared.fault.Fault.{Fault}
-use Rattle.parse_cursor.specs.declared.fault.Fault.TheVariants.{Expected, Condition, TooDeep, Memory}
-use Rattle.parse_cursor.specs.Reading.{Outcome, Refused, Deep, Barred}
+use Rattle.parse_expressions.specs.declared.fault.Fault.{Fault}
+use Rattle.parse_expressions.specs.declared.fault.Fault.TheVariants.{Expected, Condition, TooDeep, Memory}
+use Rattle.parse_expressions.specs.Reading.{Outcome, Refused, Deep, Barred}
 
 -- The fault is of the word that stands first in what is left.
 abbrev pub Fails : {A : Type 0} → Outcome A → Fault → Words → Type 0

@@ -16,8 +16,8 @@ use Rattle.sdl_lex.specs.Kind.{Is, is_mark}
 use Rattle.sdl_lex.specs.Place.{is_line_end, last_line_len, place_after}
 use Rattle.sdl_lex.specs.Token.{InOrder, IsSlice}
 use Rattle.sdl_lex.proofs.ByteLemmas.{each_among}
-use Rattle.parse_cursor.specs.Searched.{along, behind, behind_by, may_break}
-use Rattle.parse_cursor.proofs.WordLemmas.{InOrder-earlier}
+use Rattle.parse_expressions.specs.Searched.{along, behind, behind_by, may_break}
+use Rattle.parse_expressions.proofs.WordLemmas.{InOrder-earlier}
 
 -- the byte ends no line
 abbrev in_line : ℕ → Bool

@@ -9,9 +9,9 @@ use Rattle.sdl_lex.specs.declared.place.Place.{Place}
 use Rattle.sdl_lex.specs.declared.token.Token.{Token}
 use Rattle.sdl_lex.specs.Place.{place_after}
 use Rattle.sdl_lex.specs.Token.{IsSlice, InOrder}
-use Rattle.parse_cursor.specs.declared.word.PlacedWord.{PlacedWord}
-use Rattle.parse_cursor.specs.PlacedWord.{word_of_placed}
-use Rattle.parse_cursor.proofs.TurnLemmas.{map_push}
+use Rattle.parse_expressions.specs.declared.word.PlacedWord.{PlacedWord}
+use Rattle.parse_expressions.specs.PlacedWord.{word_of_placed}
+use Rattle.parse_expressions.proofs.TurnLemmas.{map_push}
 use Rattle.sdl_tree.specs.Words as words
 
 abbrev word_from : List ℕ → Token → Place → words.Word

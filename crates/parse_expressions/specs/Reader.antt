@@ -3,9 +3,9 @@ use Rattle.std.specs.Prelude.{Result}
 use Rattle.std.specs.Borrow.{MutBor}
 use Rattle.std.specs.declared.alloc.Global.{Global}
 use Rattle.sdl_tree.specs.Words.{Words}
-use Rattle.parse_cursor.specs.declared.fault.Fault.{Fault}
-use Rattle.parse_cursor.specs.Reading.{Parser}
-use Rattle.parse_cursor.specs.Reads.{Reads}
+use Rattle.parse_expressions.specs.declared.fault.Fault.{Fault}
+use Rattle.parse_expressions.specs.Reading.{Parser}
+use Rattle.parse_expressions.specs.Reads.{Reads}
 
 -- At this place in the grammar the function value reads what its parser does.
 pub record IsReader {A B At : Type 0} (view : A → B) (p : Parser B) (at : At) (pre : Global → MutBor Words → At → Type 0)

@@ -1,6 +1,6 @@
 use Rattle.std.proofs.Common.{◌≡◌, ◌-◌, map}
-use Rattle.parse_cursor.specs.Reading.{another, separated, repeated_from}
-use Rattle.parse_cursor.proofs.lists.separated.Given as goal
+use Rattle.parse_expressions.specs.Reading.{another, separated, repeated_from}
+use Rattle.parse_expressions.proofs.lists.separated.Given as goal
 
 abbrev pub invariant-loop-turn : goal.invariant-loop-turn
 invariant-loop-turn g l =

@@ -1,6 +1,6 @@
 use Rattle.std.proofs.Common.{◌≡◌, ◌-◌, map}
-use Rattle.parse_cursor.specs.Reading.{repeated, repeated_from}
-use Rattle.parse_cursor.proofs.lists.repeated.Given as goal
+use Rattle.parse_expressions.specs.Reading.{repeated, repeated_from}
+use Rattle.parse_expressions.proofs.lists.repeated.Given as goal
 
 abbrev pub invariant-loop-turn : goal.invariant-loop-turn
 invariant-loop-turn g l =

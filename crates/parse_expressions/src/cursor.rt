@@ -1,9 +1,9 @@
 //! A cursor over the words of a text.
 
 ghost use Rattle.std.specs.Prelude.{◌≡◌, length, map, option_map};
-ghost use Rattle.parse_cursor.specs.PlacedWord.{word_of_placed};
-ghost use Rattle.parse_cursor.specs.Reading as spec;
-ghost use Rattle.parse_cursor.specs.Reads.{Reads};
+ghost use Rattle.parse_expressions.specs.PlacedWord.{word_of_placed};
+ghost use Rattle.parse_expressions.specs.Reading as spec;
+ghost use Rattle.parse_expressions.specs.Reads.{Reads};
 ghost use Rattle.sdl_tree.specs.Views.{name_value, number_value};
 
 use crate::fault::{Fault, Wanted};
@@ -22,7 +22,7 @@ pub struct Cursor<'c, 't> {
 impl<'c, 't> Model for Cursor<'c, 't> {
     ghost use Rattle.std.specs.Prelude.{map};
     ghost use Rattle.sdl_tree.specs.Words.{Words};
-    ghost use Rattle.parse_cursor.specs.PlacedWord.{word_of_placed};
+    ghost use Rattle.parse_expressions.specs.PlacedWord.{word_of_placed};
 
     ghost Value = { Words };
 

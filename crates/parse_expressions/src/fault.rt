@@ -1,8 +1,8 @@
 //! Why no reading goes on at the front of the cursor, and what must stand there.
 
 ghost use Rattle.std.specs.Prelude.{◌≡◌, Some};
-ghost use Rattle.parse_cursor.specs.Wanted.{wanted_text};
-ghost use Rattle.parse_cursor.specs.declared.fault.Fault.TheVariants.{Memory};
+ghost use Rattle.parse_expressions.specs.Wanted.{wanted_text};
+ghost use Rattle.parse_expressions.specs.declared.fault.Fault.TheVariants.{Memory};
 
 use sdl_tree::Mark;
 use std::alloc::{AllocError, AllocFailed};

@@ -1,8 +1,8 @@
 -- The word that tells what must stand at a place.
 use Rattle.std.specs.Prelude.{ℕ, List, codes}
 use Rattle.std.specs.String.{string_bytes}
-use Rattle.parse_cursor.specs.declared.fault.Wanted.{Wanted}
-use Rattle.parse_cursor.specs.declared.fault.Wanted.TheVariants as wanted
+use Rattle.parse_expressions.specs.declared.fault.Wanted.{Wanted}
+use Rattle.parse_expressions.specs.declared.fault.Wanted.TheVariants as wanted
 use Rattle.sdl_tree.specs.Mark as mark
 
 abbrev pub wanted_text : Wanted → List ℕ

@@ -4,7 +4,7 @@ use Rattle.sdl_lex.specs.declared.place.Place.{Place}
 use Rattle.sdl_lex.specs.declared.token.Kind.{Kind}
 use Rattle.sdl_lex.specs.declared.token.Kind.TheVariants as kind
 use Rattle.sdl_lex.specs.declared.token.Token.{Token}
-use Rattle.parse_cursor.specs.declared.word.Searched.{Searched}
+use Rattle.parse_expressions.specs.declared.word.Searched.{Searched}
 
 -- whether a line may end in a token of this kind
 abbrev pub may_break : Kind → Bool

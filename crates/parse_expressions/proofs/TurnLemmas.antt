@@ -1,7 +1,7 @@
 -- How loops of the code go on as those of the reading do.
 use Rattle.std.proofs.Common.{List, Ok, ap, arith, map, refl, suc, ℕ, [], ◌++◌, ◌+◌, ◌-◌, ◌<◌, ◌∷◌, ◌≡◌, ◌≤◌, Option}
 use Rattle.std.proofs.lemmas.Grind.{common_steps}
-use Rattle.parse_cursor.specs.Reading.{Parser, repeated_from}
+use Rattle.parse_expressions.specs.Reading.{Parser, repeated_from}
 use Rattle.sdl_tree.specs.Words.{Words}
 
 pub map_push : {A B : Type 0} (f : A → B) (xs : List A) (x : A) → map f (xs ++ x ∷ []) ≡ map f xs ++ f x ∷ []

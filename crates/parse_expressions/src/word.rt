@@ -4,8 +4,8 @@ ghost use Rattle.std.specs.Prelude.{◌≡◌, ◌≤◌, ◌<◌, ◌+◌, ◌-
 ghost use Rattle.std.specs.Str.{IsAscii};
 ghost use Rattle.sdl_lex.specs.Place.{place_after};
 ghost use Rattle.sdl_lex.specs.Token.{InOrder, IsSlice};
-ghost use Rattle.parse_cursor.specs.PlacedWord.{word_of_placed};
-ghost use Rattle.parse_cursor.specs.Searched as spec;
+ghost use Rattle.parse_expressions.specs.PlacedWord.{word_of_placed};
+ghost use Rattle.parse_expressions.specs.Searched as spec;
 ghost use Rattle.sdl_tree.specs.Words as words;
 
 use sdl_lex::{Kind, Place, Token};

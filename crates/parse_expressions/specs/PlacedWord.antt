@@ -1,9 +1,9 @@
 -- What a word of the source means to the grammar, with its spelling and its place.
 use Rattle.sdl_lex.specs.declared.place.Place.{Place}
 use Rattle.sdl_tree.specs.Words as words
-use Rattle.parse_cursor.specs.declared.word.Word.{Word}
-use Rattle.parse_cursor.specs.declared.word.Word.TheVariants.{Fixed, Name, Number, Text, LeftOut}
-use Rattle.parse_cursor.specs.declared.word.PlacedWord.{PlacedWord}
+use Rattle.parse_expressions.specs.declared.word.Word.{Word}
+use Rattle.parse_expressions.specs.declared.word.Word.TheVariants.{Fixed, Name, Number, Text, LeftOut}
+use Rattle.parse_expressions.specs.declared.word.PlacedWord.{PlacedWord}
 
 -- the word at this place
 abbrev pub word_at : Place → Word → words.Word

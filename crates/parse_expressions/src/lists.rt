@@ -1,9 +1,9 @@
 //! Lists of anything that can be read.
 
 ghost use Rattle.std.specs.Prelude.{map, option_map};
-ghost use Rattle.parse_cursor.specs.Reader.{IsReader};
-ghost use Rattle.parse_cursor.specs.Reading as spec;
-ghost use Rattle.parse_cursor.specs.Reads.{Reads};
+ghost use Rattle.parse_expressions.specs.Reader.{IsReader};
+ghost use Rattle.parse_expressions.specs.Reading as spec;
+ghost use Rattle.parse_expressions.specs.Reads.{Reads};
 
 use crate::cursor::Cursor;
 use crate::fault::Fault;
@@ -14,7 +14,7 @@ use std::alloc::Global;
 /// stands in no cycle of calls: a list is given the function that reads its items. Each crate that reads values has a
 /// type of places of its own.
 pub trait Production<P> {
-    ghost use Rattle.parse_cursor.specs.Reading.{Parser};
+    ghost use Rattle.parse_expressions.specs.Reading.{Parser};
 
     ghost Node: { Type 0 };
 
@@ -26,7 +26,7 @@ pub trait Production<P> {
 /// The production from which a value of type `P` is read, at a place of this type, if one begins there.
 pub trait Perhaps<P> {
     ghost use Rattle.std.specs.Prelude.{Option};
-    ghost use Rattle.parse_cursor.specs.Reading.{Parser};
+    ghost use Rattle.parse_expressions.specs.Reading.{Parser};
 
     ghost Node: { Type 0 };
 

@@ -1,6 +1,0 @@
-pub mod PlacedWord
-pub mod Reader
-pub mod Reading
-pub mod Reads
-pub mod Searched
-pub mod Wanted
