@@ -1,12 +1,12 @@
 -- A take that is made again: together with what the refused one drew it does what one take does.
 use Rattle.std.proofs.Common.{List, ◌++◌, refl, ap, ◌∙◌, subst}
-use Rattle.port_inbox.specs.Calls.{after_draws, HasDrawn, TakesHere}
-use Rattle.port_inbox.specs.Ends.{OwnerState}
+use Rattle.port_model.specs.Calls.{after_draws, HasDrawn, TakesHere}
+use Rattle.port_model.specs.Ends.{OwnerState}
 use Rattle.port_model.specs.PlainPort.{armed_left}
 use Rattle.port_model.specs.Take as take
 use Rattle.port_model.specs.declared.selection.Class.{Class}
 use Rattle.port_model.specs.declared.taken.Taken.{Taken}
-use Rattle.port_queue.proofs.Drawing.{drawn_more}
+use Rattle.input_port.proofs.QueueDrawing.{drawn_more}
 
 pub takes_later : (classes : List Class) (old mid new : OwnerState) (taken : Taken) → HasDrawn old mid
     → TakesHere classes mid new taken → TakesHere classes old new taken

@@ -1,13 +1,13 @@
 -- The signals of the rows: each has a name, one value, and no sender of its own.
 use Rattle.std.specs.Prelude.{ℕ, ℤ, [], ◌∷◌}
-use Rattle.port_inbox.specs.declared.entry.Entry.{Entry}
-use Rattle.port_inbox.specs.declared.entry.Entry.TheVariants as entry
+use Rattle.port_model.specs.declared.inbox.entry.Entry.{Entry}
+use Rattle.port_model.specs.declared.inbox.entry.Entry.TheVariants as entry
 use Rattle.port_model.specs.declared.got.Got.TheVariants as got
 use Rattle.port_model.specs.declared.taken.Taken.{Taken}
 use Rattle.port_model.specs.declared.taken.Taken.TheVariants.{Consumed}
-use Rattle.port_values.specs.declared.item.Item.{Item}
-use Rattle.port_values.specs.declared.pid.Pid.TheVariants.{Env}
-use Rattle.port_values.specs.declared.value.Value.TheVariants.{Int}
+use Rattle.port_model.specs.declared.values.item.Item.{Item}
+use Rattle.port_model.specs.declared.values.pid.Pid.TheVariants.{Env}
+use Rattle.port_model.specs.declared.values.value.Value.TheVariants.{Int}
 
 -- the signal of a name and a value
 abbrev pub item_of : ℕ → ℤ → Item

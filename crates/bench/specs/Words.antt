@@ -1,5 +1,5 @@
 -- The words of the contracts of calls that are made again, from the crates below.
-pub use Rattle.port_inbox.specs.Calls.{HasDrawn, TakesHere}
-pub use Rattle.port_inbox.specs.declared.entry.Entry.TheVariants.{Signal}
-pub use Rattle.port_queue.specs.Calls.{Gathers, Puts}
-pub use Rattle.port_queue.specs.Ends.{newborn}
+pub use Rattle.port_model.specs.Calls.{HasDrawn, TakesHere}
+pub use Rattle.port_model.specs.declared.inbox.entry.Entry.TheVariants.{Signal}
+pub use Rattle.input_port.specs.QueueCalls.{Gathers, Puts}
+pub use Rattle.input_port.specs.QueueEnds.{newborn}

@@ -1,8 +1,9 @@
 //! The port of one thread with much in it.
 
 use crate::signals::item;
-use port_model::{Class, Got, PlainPort, Selection, Taken};
-use port_values::{SignalId, Ticks, TimerKey, Value, Values};
+use port_model::{
+    Class, Got, PlainPort, Selection, SignalId, Taken, Ticks, TimerKey, Value, Values,
+};
 use std::alloc::{AllocError, Global};
 
 /// The key of a timer with one value.

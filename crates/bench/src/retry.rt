@@ -8,8 +8,7 @@ use crate::call::Call;
 use crate::fault::Fault;
 use input_port::birth::port;
 use input_port::{Desk, Finished, NewPort, Owner, Port, Retired, Sender};
-use port_model::{Selection, Taken};
-use port_values::Item;
+use port_model::{Item, Selection, Taken};
 use std::alloc::Global;
 use std::sync::Wait;
 

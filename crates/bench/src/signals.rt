@@ -7,9 +7,7 @@ use crate::call::Call;
 use crate::fault::Fault;
 use crate::retry::{put, take};
 use input_port::{Finished, Owner, Port, Sender};
-use port_inbox::Entry;
-use port_model::{Got, Selection, Taken};
-use port_values::{Item, Pid, SignalId, Value, Values};
+use port_model::{Entry, Got, Item, Pid, Selection, SignalId, Taken, Value, Values};
 use std::alloc::Global;
 use std::sync::Wait;
 

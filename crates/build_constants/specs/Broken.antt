@@ -1,6 +1,6 @@
 -- When a rule is broken in a constant of a process, and at which word: said of the text, and not of what is noted.
 use Rattle.std.specs.Prelude.{◌≡◌, ℤ, pos, true, List, Option, None, Some, flat_map, int_lt}
-use Rattle.port_values.specs.declared.value.Value.{Value}
+use Rattle.port_model.specs.declared.values.value.Value.{Value}
 use Rattle.build_constants.specs.Counts.{counts_faults, maximum_in}
 use Rattle.build_constants.specs.Timers.{timer_faults}
 use Rattle.build_constants.specs.Variables.{SortedGroup, group_faults}

@@ -1,6 +1,6 @@
 -- What is noted of a constant expression is broken in it, and the other way round.
 use Rattle.std.proofs.Common.{◌≡◌, ℤ, pos, negsuc, Bool, true, false, [], Option, None, Some, is_none, option_and_then, if◌then◌else◌, refl, sym, ap, subst}
-use Rattle.port_values.specs.declared.value.Value.{Value}
+use Rattle.port_model.specs.declared.values.value.Value.{Value}
 use Rattle.build_names.proofs.FaultLemmas.{each-both, each-if, in-if, in-left, in-right}
 use Rattle.build_names.specs.FaultLaws.{Each, In}
 use Rattle.build_names.specs.Faults.{Diagnostic, fault_if, diagnostic_at}

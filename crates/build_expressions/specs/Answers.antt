@@ -1,6 +1,6 @@
 -- The answers of a decision (Z.102: decision): constants that can be compared with the value of its question.
 use Rattle.std.specs.Prelude.{◌++◌, Bool, true, false, List, Option, None, Some, is_none, is_some, option_map, if◌then◌else◌, not}
-use Rattle.port_values.specs.declared.value.Value.{Value}
+use Rattle.port_model.specs.declared.values.value.Value.{Value}
 use Rattle.build_names.specs.Faults.{Diagnostic, fault_if, mark_word}
 use Rattle.build_names.specs.declared.faults.fault.Rule.TheVariants as broken
 use Rattle.build_expressions.specs.Constants.{counted, counted_faults}

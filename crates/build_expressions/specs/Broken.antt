@@ -4,8 +4,8 @@ use Rattle.std.specs.Prelude.{◌≡◌, ◌++◌, ℕ, negsuc, Bool, true, fals
 use Rattle.build_names.specs.FaultLaws.{Each, In}
 use Rattle.build_names.specs.Faults.{Diagnostic, diagnostic_at, mark_word}
 use Rattle.build_names.specs.declared.faults.fault.Rule.TheVariants.{Unknown, Sort, BadCount}
-use Rattle.port_values.specs.declared.item.SignalId.{SignalId}
-use Rattle.port_values.specs.declared.value.Value.{Value}
+use Rattle.port_model.specs.declared.values.item.SignalId.{SignalId}
+use Rattle.port_model.specs.declared.values.value.Value.{Value}
 use Rattle.build_expressions.specs.Constants.{constant_faults, value_of}
 use Rattle.build_expressions.specs.Contexts.{allows_instance, allows_word}
 use Rattle.build_expressions.specs.OperandSorts.{fits, result_of, unary_result_of}

@@ -1,7 +1,7 @@
 -- What a constant expression comes to, and when it is none (Z.104: expressions).
 use Rattle.std.specs.Prelude.{◌++◌, Bool, true, false, List, [], Option, None, Some, Result, Ok, Err, is_none, option_and_then, if◌then◌else◌}
 use Rattle.std.specs.Option.{unwrap_or}
-use Rattle.port_values.specs.declared.value.Value.{Value}
+use Rattle.port_model.specs.declared.values.value.Value.{Value}
 use Rattle.build_names.specs.Faults.{Diagnostic, fault_if}
 use Rattle.build_names.specs.declared.faults.fault.Rule.TheVariants.{BadCount}
 use Rattle.build_expressions.specs.Misused.{place_faults}

@@ -2,7 +2,7 @@
 -- name stands for is the first entry of its text.
 use Rattle.std.specs.Prelude.{◌++◌, ℕ, Bool, List, Option, map, slice_get}
 use Rattle.std.specs.Option.{unwrap_or}
-use Rattle.port_values.specs.declared.item.SignalId.{SignalId}
+use Rattle.port_model.specs.declared.values.item.SignalId.{SignalId}
 use Rattle.build_names.specs.Names.{first_of, names_in}
 use Rattle.build_names.specs.declared.scopes.names.Outward.{Outward}
 use Rattle.build_expressions.specs.declared.scope.AgentMeaning as agents

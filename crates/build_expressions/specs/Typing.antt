@@ -2,9 +2,9 @@
 -- that nothing is told of what stands round it.
 use Rattle.std.specs.Prelude.{◌||◌, ◌&&◌, Bool, true, false, List, [], ◌∷◌, Option, None, Some, map, option_map, if◌then◌else◌}
 use Rattle.std.specs.List.{list_any}
-use Rattle.port_values.specs.declared.item.SignalId.{SignalId}
-use Rattle.port_values.specs.declared.pid.Pid.TheVariants.{Null}
-use Rattle.port_values.specs.declared.value.Value.TheVariants as value
+use Rattle.port_model.specs.declared.values.item.SignalId.{SignalId}
+use Rattle.port_model.specs.declared.values.pid.Pid.TheVariants.{Null}
+use Rattle.port_model.specs.declared.values.value.Value.TheVariants as value
 use Rattle.build_expressions.specs.Contexts.{allows_instance, allows_word}
 use Rattle.build_expressions.specs.OperandSorts.{fits, kind_of, result_of, unary_result_of}
 use Rattle.build_expressions.specs.Partial.{all_some, both}

@@ -17,7 +17,7 @@ use crate::scope::{Constant, Scope};
 use crate::typed::Typed;
 use crate::typing::{first_token, resolve_in};
 use build_names::{Faults, Token};
-use port_values::Value;
+use port_model::Value;
 use sdl_system::Comparison;
 use sdl_tree::{Answer, Expression, Operator};
 use std::alloc::{AllocError, Global};

@@ -15,7 +15,7 @@ use crate::scope::{Constant, Scope};
 use crate::typed::Typed;
 use crate::typing::{first_token, resolve_in};
 use build_names::{Faults, Rule, Token};
-use port_values::Value;
+use port_model::Value;
 use sdl_system::{Chain, Failure, Link, Operation, Sort, UnaryOperation, in_sort};
 use sdl_tree::Expression;
 use std::alloc::{AllocError, Global};

@@ -4,7 +4,7 @@ ghost use Rattle.std.specs.Prelude.{◌≡◌, option_map};
 ghost use Rattle.build_expressions.specs.Scope.{constant_at, value_meaning};
 
 use build_names::Outward;
-use port_values::{SignalId, Value};
+use port_model::{SignalId, Value};
 use sdl_system::{ProcessId, Sort, VariableId};
 
 /// The outcome of a constant expression.

@@ -7,7 +7,7 @@ use crate::context::Context;
 use crate::operand_sort::OperandSort;
 use crate::operator::TypedUnaryOperation;
 use crate::scope::{Constant, ValueMeaning};
-use port_values::{Pid, Value};
+use port_model::{Pid, Value};
 use sdl_system::{Expression, PidExpression, Sort, UnaryOperation};
 use sdl_tree::KeywordValue;
 use std::alloc::{AllocError, Global};

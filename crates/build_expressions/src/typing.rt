@@ -18,7 +18,7 @@ use crate::operator::{result_of, unary_result_of};
 use crate::scope::{Scope, SignalMeaning, ValueMeaning};
 use crate::typed::Typed;
 use build_names::{Faults, Token};
-use port_values::{SignalId, Value};
+use port_model::{SignalId, Value};
 use sdl_tree::{
     Chain, Expression, KeywordValue, Link, Mark, Name, Operator, Spelling, UnaryOperator,
 };

@@ -2,7 +2,7 @@
 use Rattle.std.proofs.Common.{◌≡◌, ◌∙◌, ◌==◌, ◌<◌, ◌≤◌, ◌⊎◌, inl, inr, ℕ, zero, suc, Bool, true, false, cond, All, List, [], ◌∷◌, Option, None, Some, ap, arith, map, nat_lt, option_map, refl, slice_get, subst, sym}
 use Rattle.std.specs.List.{AllZip}
 use Rattle.std.proofs.lemmas.List.Elements.{All-head, All-tail}
-use Rattle.port_values.specs.declared.item.SignalId.{SignalId}
+use Rattle.port_model.specs.declared.values.item.SignalId.{SignalId}
 use Rattle.build_states.specs.Mentions.{Response}
 use Rattle.build_states.specs.States.{StateMeaning, Table, meaning_of, named_in}
 use Rattle.build_states.specs.Tabled.{meaning_at, meanings_at}

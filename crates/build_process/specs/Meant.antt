@@ -1,7 +1,7 @@
 -- What a process does that has this text, as plain data (Z.101: process; Z.102: transition).
 use Rattle.std.specs.Prelude.{◌≡◌, ◌≤◌, ℕ, [], All, None, Some, map}
 use Rattle.std.specs.List.{AllZip}
-use Rattle.port_values.specs.declared.item.SignalId.{SignalId}
+use Rattle.port_model.specs.declared.values.item.SignalId.{SignalId}
 use Rattle.build_process.specs.Bodies.{bodies_of}
 use Rattle.build_process.specs.Numbered.{AreNumbered}
 use Rattle.build_flow.specs.Ends.{ends_faults}

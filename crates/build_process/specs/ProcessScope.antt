@@ -1,6 +1,6 @@
 -- What the names in a process stand for.
 use Rattle.std.specs.Prelude.{ℕ, ℤ, Bool, List, Option}
-use Rattle.port_values.specs.declared.item.SignalId.{SignalId}
+use Rattle.port_model.specs.declared.values.item.SignalId.{SignalId}
 use Rattle.build_statements.specs.Contexts as nodes
 use Rattle.build_expressions.specs.Scope.{Scope, meaning, scope_of, visible}
 use Rattle.build_states.specs.Context as stimuli

@@ -6,7 +6,7 @@ use build_definitions::SignalListId;
 use build_expressions::Scope;
 use build_names::{Names, Outward};
 use build_states::NamedStates;
-use port_values::SignalId;
+use port_model::SignalId;
 use sdl_system::LabelId;
 
 /// The meanings of the names in a process, its own states and labels among them.

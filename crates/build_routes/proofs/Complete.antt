@@ -1,6 +1,6 @@
 -- Where a path leads, its signal flows.
 use Rattle.std.proofs.Common.{◌≡◌, ◌≢◌, ℕ, ◌⊎◌, ◌&&◌, not, Bool, true, false, List, Option, None, Some, slice_get, get_or, ap, ◌∙◌, sym, subst, refl, inl, inr}
-use Rattle.port_values.specs.declared.item.SignalId.{SignalId}
+use Rattle.port_model.specs.declared.values.item.SignalId.{SignalId}
 use Rattle.std.specs.Prelude.{if◌then◌else◌}
 use Rattle.sdl_system.specs.declared.id.ProcessId.{ProcessId}
 use Rattle.std.proofs.lemmas.Option.{slice_get-get_or}

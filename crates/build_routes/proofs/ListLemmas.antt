@@ -1,6 +1,6 @@
 -- The masks of lists, and what flows between lists.
 use Rattle.std.proofs.Common.{◌≡◌, ℕ, zero, suc, ◌+◌, ◌*◌, ◌/◌, ◌%◌, ◌<◌, ◌≤◌, ◌++◌, ◌↔◌, List, [], ◌∷◌, None, Some, slice_get, length, get_or, arith, inl, inr, sym, subst, refl, ◌∙◌, ap}
-use Rattle.port_values.specs.declared.item.SignalId.{SignalId}
+use Rattle.port_model.specs.declared.values.item.SignalId.{SignalId}
 use Rattle.std.proofs.lemmas.Bool.{cases_eq}
 use Rattle.std.proofs.lemmas.List.{get_or_push, get_or_append_left}
 use Rattle.std.proofs.lemmas.Option.{slice_get_within}

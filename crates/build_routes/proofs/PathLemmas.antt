@@ -1,6 +1,6 @@
 -- What flows from a source, and to whom paths lead.
 use Rattle.std.proofs.Common.{◌≡◌, ℕ, zero, suc, ◌<◌, ◌-◌, ◌^◌, ◌/◌, ◌%◌, ◌↔◌, Bool, List, [], ◌∷◌, Option, None, Some, refl, sym, subst}
-use Rattle.port_values.specs.declared.item.SignalId.{SignalId}
+use Rattle.port_model.specs.declared.values.item.SignalId.{SignalId}
 use Rattle.sdl_system.specs.declared.id.ProcessId.{ProcessId}
 use Rattle.std.proofs.lemmas.Nat.Bits.{bit_at_ones}
 use Rattle.build_routes.specs.Graph.{Flows, Leads}

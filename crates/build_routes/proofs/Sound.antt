@@ -1,6 +1,6 @@
 -- A signal comes to a node only as the node says.
 use Rattle.std.proofs.Common.{◌≡◌, ◌≢◌, ℕ, ◌<◌, ◌&&◌, not, Bool, true, false, List, Option, None, Some, slice_get, get_or, length, ap, ◌∙◌, sym, subst, refl, inl, inr}
-use Rattle.port_values.specs.declared.item.SignalId.{SignalId}
+use Rattle.port_model.specs.declared.values.item.SignalId.{SignalId}
 use Rattle.std.proofs.lemmas.Bool.{and_parts, cases_eq, eqb-true, eq-eqb, false≢true, not-true}
 use Rattle.std.specs.Prelude.{if◌then◌else◌}
 use Rattle.sdl_system.specs.declared.id.ProcessId.{ProcessId}

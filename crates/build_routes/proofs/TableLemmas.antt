@@ -2,7 +2,7 @@
 use Rattle.std.proofs.Common.{◌≡◌, ◌⊎◌, ◌<◌, ◌↔◌, ◌+◌, ℕ, zero, suc, false, true, List, [], ◌∷◌, ◌++◌, None, Option, Some, ap, arith, filter, get_or, inl, inr, length, map, option_and_then, option_map, refl, slice_get, subst, sym, ◌∙◌}
 use Rattle.std.specs.Option.{option_map_or}
 use Rattle.std.proofs.lemmas.Option.{none-some, same_Some, slice_get-get_or, slice_get-map, slice_get_within}
-use Rattle.port_values.specs.declared.item.SignalId.{SignalId}
+use Rattle.port_model.specs.declared.values.item.SignalId.{SignalId}
 use Rattle.sdl_system.specs.Route.{is_receiver, list_of, reach_of, reaches_env, receivers}
 use Rattle.sdl_system.specs.declared.id.ProcessId.{ProcessId}
 use Rattle.sdl_system.specs.declared.route.Reach.{Reach}

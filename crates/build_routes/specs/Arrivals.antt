@@ -1,6 +1,6 @@
 -- Whom 64 signals from a source reach, as the masks of nodes tell it.
 use Rattle.std.specs.Prelude.{◌≡◌, ◌<◌, ◌/◌, ◌%◌, ◌↔◌, ℕ, Bool, List}
-use Rattle.port_values.specs.declared.item.SignalId.{SignalId}
+use Rattle.port_model.specs.declared.values.item.SignalId.{SignalId}
 use Rattle.sdl_system.specs.declared.id.ProcessId.{ProcessId}
 use Rattle.build_routes.specs.Graph.{Leads}
 use Rattle.build_routes.specs.Mask.{Has}

@@ -2,7 +2,7 @@
 use Rattle.std.specs.Prelude.{◌≡◌, ◌==◌, ◌<◌, ◌↔◌, ◌⊎◌, ℕ, true, List, Some, filter, length, map, slice_get}
 use Rattle.std.specs.Int.{bit_at}
 use Rattle.std.specs.List.{Contains}
-use Rattle.port_values.specs.declared.item.SignalId.{SignalId}
+use Rattle.port_model.specs.declared.values.item.SignalId.{SignalId}
 use Rattle.sdl_system.specs.Route.{is_receiver}
 use Rattle.sdl_system.specs.declared.id.ProcessId.{ProcessId}
 use Rattle.sdl_system.specs.declared.route.Reach.{Reach}

@@ -1,6 +1,6 @@
 -- On which ways a signal goes from whom to whom (Z.101: channel, connection; for implied channels see below).
 use Rattle.std.specs.Prelude.{◌≡◌, ◌≢◌, ℕ, ◌<◌, true, Some, slice_get, length}
-use Rattle.port_values.specs.declared.item.SignalId.{SignalId}
+use Rattle.port_model.specs.declared.values.item.SignalId.{SignalId}
 use Rattle.build_routes.specs.Each.{ForSome}
 use Rattle.build_routes.specs.SignalLists.{StandsFor}
 use Rattle.build_routes.specs.declared.network.joined.Block.{Block}

@@ -1,6 +1,6 @@
 -- What it means that a signal has come to a node.
 use Rattle.std.specs.Prelude.{◌≡◌, ◌≢◌, ◌⊎◌, ℕ, List, None, Some, Option, slice_get, get_or, false, Bool}
-use Rattle.port_values.specs.declared.item.SignalId.{SignalId}
+use Rattle.port_model.specs.declared.values.item.SignalId.{SignalId}
 use Rattle.build_routes.specs.Paths.{By, Goes, Implied, IsNamed, StandsIn, Way}
 use Rattle.build_routes.specs.SignalLists.{StandsFor}
 use Rattle.build_routes.specs.declared.network.list.ListId.{ListId}

@@ -1,6 +1,6 @@
 -- Which signals a list stands for.
 use Rattle.std.specs.Prelude.{◌≡◌, ℕ, zero, suc, ◌/◌, ◌%◌, ◌<◌, ◌↔◌, List, [], ◌∷◌, None, Some, slice_get}
-use Rattle.port_values.specs.declared.item.SignalId.{SignalId}
+use Rattle.port_model.specs.declared.values.item.SignalId.{SignalId}
 use Rattle.build_routes.specs.Each.{ForSome}
 use Rattle.build_routes.specs.Mask.{Has}
 use Rattle.build_routes.specs.declared.network.graph.Step.{Step}

@@ -1,7 +1,7 @@
 -- What the table of routes tells.
 use Rattle.std.specs.Prelude.{◌≡◌, ◌<◌, ◌↔◌, ℕ, true, List, [], ◌∷◌, Some, length, map, slice_get}
 use Rattle.std.specs.List.{Contains}
-use Rattle.port_values.specs.declared.item.SignalId.{SignalId}
+use Rattle.port_model.specs.declared.values.item.SignalId.{SignalId}
 use Rattle.sdl_system.specs.Route.{reaches_env, receivers}
 use Rattle.sdl_system.specs.declared.id.ProcessId.{ProcessId}
 use Rattle.sdl_system.specs.declared.route.Routes.{Routes}

@@ -9,7 +9,7 @@ ghost use Rattle.build_routes.specs.SignalLists.{AreSets};
 use crate::graph::Node;
 use crate::network::mask::{has_bit, mask_at};
 use crate::network::{Graph, Network, SignalSets, Source};
-use port_values::SignalId;
+use port_model::SignalId;
 use sdl_system::ProcessId;
 use std::alloc::{AllocError, Global};
 

@@ -17,7 +17,7 @@ use crate::named::named_flags;
 use crate::network::{End, Graph, Network, Scope, SignalSets, Source, counted};
 use crate::receiver::receivers_of;
 use crate::word::Word;
-use port_values::SignalId;
+use port_model::SignalId;
 use sdl_system::{ProcessId, Reach, Routes};
 use std::alloc::{AllocError, Global};
 

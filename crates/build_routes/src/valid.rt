@@ -2,7 +2,7 @@
 
 ghost use Rattle.std.specs.Prelude.{◌≡◌, ◌<◌, ◌↔◌, ◌⊎◌, true, length, IfOk, IsTrue};
 ghost use Rattle.std.specs.List.{Contains};
-ghost use Rattle.port_values.specs.declared.item.SignalId.{SignalId};
+ghost use Rattle.port_model.specs.declared.values.item.SignalId.{SignalId};
 ghost use Rattle.sdl_system.specs.Signal.{is_member};
 ghost use Rattle.build_routes.specs.Each.{ForSome};
 ghost use Rattle.build_routes.specs.SignalLists.{AreSets, HasSignal};
@@ -11,7 +11,7 @@ ghost use Rattle.build_routes.specs.declared.network.list.ListId.{ListId};
 
 use crate::graph::{same_end, same_scope};
 use crate::network::{ChannelPath, End, ListId, Network, Process, SignalSets, counted};
-use port_values::SignalId;
+use port_model::SignalId;
 use sdl_system::{ProcessId, SignalSet};
 use std::alloc::{AllocError, Global};
 

@@ -7,7 +7,7 @@ ghost use Rattle.build_routes.specs.declared.network.joined.End.TheVariants as a
 
 use crate::arrivals::Arrivals;
 use crate::network::{End, Source};
-use port_values::SignalId;
+use port_model::SignalId;
 use sdl_system::{Reach, ReceiversId};
 use std::alloc::Global;
 

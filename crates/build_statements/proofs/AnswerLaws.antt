@@ -1,6 +1,6 @@
 -- The faults of an answer are the rules that are broken in it.
 use Rattle.std.proofs.Common.{◌≡◌, ◌∙◌, ◌++◌, not, Bool, true, false, [], Option, None, Some, option_and_then, is_none, is_some, if◌then◌else◌, refl, sym, ap, subst}
-use Rattle.port_values.specs.declared.value.Value as values
+use Rattle.port_model.specs.declared.values.value.Value as values
 use Rattle.build_statements.specs.BrokenAnswers.{operator_word, BreaksAnswer, BreaksValue, IsComparable, IsComparison, IsOrdering, IsUnordered, IsValueOf}
 use Rattle.build_statements.specs.BrokenAnswers as broken
 use Rattle.build_names.proofs.FaultLemmas.{each-both, each-if, in-if, in-left, in-right}

@@ -1,7 +1,7 @@
 -- When a rule is broken in a transition, and at which word: said of the statements that stand in it, and not of what is
 -- noted (Z.102: task, output, set, reset, create, decision, join, nextstate).
 use Rattle.std.specs.Prelude.{◌≡◌, Bool, false, List, Option, None, Some}
-use Rattle.port_values.specs.declared.item.SignalId.{SignalId}
+use Rattle.port_model.specs.declared.values.item.SignalId.{SignalId}
 use Rattle.build_statements.specs.BrokenAnswers.{BreaksAnswer}
 use Rattle.build_statements.specs.Contexts.{Context, is_reaching, label_in, state_in}
 use Rattle.build_statements.specs.Standing.{EndsIn, IsAskedBy, IsPidPlace, StandsIn}

@@ -1,7 +1,7 @@
 -- What the names in a transition stand for.
 use Rattle.std.specs.Prelude.{ℕ, ℤ, Bool, false, List, Option, None, slice_get}
 use Rattle.std.specs.Option.{unwrap_or}
-use Rattle.port_values.specs.declared.item.SignalId.{SignalId}
+use Rattle.port_model.specs.declared.values.item.SignalId.{SignalId}
 use Rattle.build_statements.specs.declared.context.Context as declared
 use Rattle.build_names.specs.Names.{first_of}
 use Rattle.build_expressions.specs.Scope.{Scope, scope_of}

@@ -1,7 +1,7 @@
 -- The rules that the statements of a transition break, each at the word where it does, in the order of the text (Z.102:
 -- task, output, set, reset, create, decision, join, nextstate).
 use Rattle.std.specs.Prelude.{◌++◌, ◌&&◌, not, Bool, true, false, List, [], ◌∷◌, Option, None, Some, flat_map, is_none}
-use Rattle.port_values.specs.declared.item.SignalId.{SignalId}
+use Rattle.port_model.specs.declared.values.item.SignalId.{SignalId}
 use Rattle.build_statements.specs.Contexts.{Context, is_reaching, label_in, state_in}
 use Rattle.build_statements.specs.Statements.{agent_name, sort_of, target_in}
 use Rattle.build_names.specs.Faults.{Diagnostic, fault_if, diagnostic_at}

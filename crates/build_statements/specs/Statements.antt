@@ -2,7 +2,7 @@
 -- statement has no meaning where a rule is broken in it, where it names what has no sort, or where a constant in it has
 -- no value: all of these are told, some where the name is defined.
 use Rattle.std.specs.Prelude.{ℤ, List, Option, None, Some, flat_map, is_none, map, option_map, if◌then◌else◌}
-use Rattle.port_values.specs.declared.item.SignalId.{SignalId}
+use Rattle.port_model.specs.declared.values.item.SignalId.{SignalId}
 use Rattle.build_statements.specs.Contexts.{Context, duration_of, label_in, state_in}
 use Rattle.build_statements.specs.declared.task.Target.{Target}
 use Rattle.build_expressions.specs.Answers.{answer_in}

@@ -2,7 +2,7 @@
 
 use build_expressions::Scope;
 use build_names::Names;
-use port_values::SignalId;
+use port_model::SignalId;
 use sdl_system::{LabelId, StateId};
 
 /// The meanings of the names in the transitions of a process.

@@ -19,7 +19,7 @@ use crate::context::Context;
 use crate::list::all_there;
 use build_expressions::{AgentMeaning, SignalMeaning, resolve_for, resolve_values};
 use build_names::{Faults, Rule, Token};
-use port_values::SignalId;
+use port_model::SignalId;
 use sdl_system::{Output, Sending, Sort, Statement};
 use sdl_tree::{Applied, Destination, Expression, Name};
 use std::alloc::{AllocError, Global};

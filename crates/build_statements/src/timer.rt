@@ -18,7 +18,7 @@ use crate::context::Context;
 use crate::list::all_there;
 use build_expressions::{SignalMeaning, resolve_for, resolve_values};
 use build_names::{Faults, Rule, Token};
-use port_values::SignalId;
+use port_model::SignalId;
 use sdl_system::{Due, Setting, Statement, TimerUse};
 use sdl_tree::{Applied, Expression, Name, ResetGroup, SetClause};
 use std::alloc::{AllocError, Global};

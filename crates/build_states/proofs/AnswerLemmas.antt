@@ -4,7 +4,7 @@ use Rattle.std.specs.Borrow.{Bor}
 use Rattle.std.specs.Map.{lookup}
 use Rattle.std.proofs.lemmas.List.{append_assoc, map-append, take_more}
 use Rattle.std.proofs.lemmas.List.Sums.{fold-append}
-use Rattle.port_values.specs.declared.item.SignalId.{SignalId}
+use Rattle.port_model.specs.declared.values.item.SignalId.{SignalId}
 use Rattle.build_names.proofs.FaultLemmas.{both_noted}
 use Rattle.build_names.specs.Faults.{Diagnostic, fault_if, least_of}
 use Rattle.build_names.specs.declared.faults.fault.Rule.TheVariants.{TwiceInState}

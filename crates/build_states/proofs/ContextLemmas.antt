@@ -1,7 +1,7 @@
 -- The signals of a list by its name.
 use Rattle.std.proofs.Common.{◌≡◌, ◌∙◌, ◌++◌, ℕ, List, Option, ap, option_map, sym}
 use Rattle.build_definitions.specs.declared.entries.SignalListId.{SignalListId}
-use Rattle.port_values.specs.declared.item.SignalId.{SignalId}
+use Rattle.port_model.specs.declared.values.item.SignalId.{SignalId}
 use Rattle.build_names.specs.Names.{first_of, first_outward}
 use Rattle.build_expressions.proofs.ScopeLemmas.{meaning-first, outward-first}
 use Rattle.build_expressions.specs.Scope.{meaning}

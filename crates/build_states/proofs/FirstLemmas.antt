@@ -2,7 +2,7 @@
 use Rattle.std.proofs.Common.{◌≡◌, ◌∙◌, ◌==◌, ◌||◌, ◌++◌, arith, Bool, true, false, List, [], ◌∷◌, Option, None, Some, if◌then◌else◌, is_some, refl, ap}
 use Rattle.std.specs.List.{list_any}
 use Rattle.std.specs.Option.{option_or}
-use Rattle.port_values.specs.declared.item.SignalId.{SignalId}
+use Rattle.port_model.specs.declared.values.item.SignalId.{SignalId}
 use Rattle.build_names.proofs.NameLemmas.{lookup-append}
 use Rattle.sdl_system.specs.State.{same_signal}
 use Rattle.build_states.specs.FirstMention.{FirstMentionCounts, first_said, said, same_subject, speaks_of}

@@ -2,7 +2,7 @@
 use Rattle.std.specs.Prelude.{ℕ, List, [], Option, map, slice_get, unwrap_or}
 use Rattle.std.specs.Borrow.{Bor}
 use Rattle.std.specs.Global.{Vec}
-use Rattle.port_values.specs.declared.item.SignalId.{SignalId}
+use Rattle.port_model.specs.declared.values.item.SignalId.{SignalId}
 use Rattle.build_definitions.specs.declared.entries.SignalListId.{SignalListId}
 use Rattle.build_names.specs.Names.{first_of}
 use Rattle.build_expressions.specs.Scope.{Scope, meaning, scope_of, visible}

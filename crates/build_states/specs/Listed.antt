@@ -1,7 +1,7 @@
 -- What the lists stand for that the code makes.
 use Rattle.std.specs.Prelude.{List, Option, map, option_map}
 use Rattle.std.specs.Borrow.{Bor}
-use Rattle.port_values.specs.declared.item.SignalId.{SignalId}
+use Rattle.port_model.specs.declared.values.item.SignalId.{SignalId}
 use Rattle.build_names.specs.Faults.{token_word}
 use Rattle.build_states.specs.Mentions as plain
 use Rattle.build_states.specs.Reading as read

@@ -1,7 +1,7 @@
 -- Of which signals a stimulus speaks, and what it says of them (Z.101: input, save; Z.102: priority input, enabling
 -- condition).
 use Rattle.std.specs.Prelude.{List, [], ◌∷◌, Option, None, Some, map}
-use Rattle.port_values.specs.declared.item.SignalId.{SignalId}
+use Rattle.port_model.specs.declared.values.item.SignalId.{SignalId}
 use Rattle.build_names.specs.Faults.{mark_word}
 use Rattle.build_expressions.specs.Scope.{Scope, SignalMeaning, signal, signal_in, timer, value_in}
 use Rattle.build_expressions.specs.declared.scope.ValueMeaning.{ValueMeaning}

@@ -4,7 +4,7 @@ use Rattle.std.specs.List.{list_any}
 use Rattle.std.specs.Map.{lookup}
 use Rattle.std.specs.Option.{option_or}
 use Rattle.std.specs.Str.{bytes_eq}
-use Rattle.port_values.specs.declared.item.SignalId.{SignalId}
+use Rattle.port_model.specs.declared.values.item.SignalId.{SignalId}
 use Rattle.build_names.specs.Faults.{Diagnostic, fault_if}
 use Rattle.build_names.specs.States.{different, part_states}
 use Rattle.build_names.specs.declared.faults.fault.Rule.TheVariants.{NoState, TwiceInState}

@@ -6,7 +6,7 @@ ghost use Rattle.build_states.specs.States.{named_in, with_signal};
 
 use crate::stimuli::Response;
 use indexmap::IndexMap;
-use port_values::SignalId;
+use port_model::SignalId;
 use std::alloc::{AllocError, Global};
 use std::marker::Model;
 
@@ -18,7 +18,7 @@ pub struct Named<'m> {
 
 impl<'m> Model for Named<'m> {
     ghost use Rattle.std.specs.Prelude.{List, map};
-    ghost use Rattle.port_values.specs.declared.item.SignalId.{SignalId};
+    ghost use Rattle.port_model.specs.declared.values.item.SignalId.{SignalId};
     ghost use Rattle.build_states.specs.Listed.{named_value};
     ghost use Rattle.build_states.specs.Mentions as plain;
 

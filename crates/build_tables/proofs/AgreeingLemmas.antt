@@ -3,7 +3,7 @@ use Rattle.std.proofs.Common.{◌≡◌, ◌∙◌, ◌<◌, ◌≤◌, ◌==◌
 use Rattle.std.specs.List.{AllZip}
 use Rattle.std.proofs.lemmas.Option.{slice_get_past}
 use Rattle.port_model.specs.Selection as selection
-use Rattle.port_values.specs.declared.item.SignalId.{SignalId}
+use Rattle.port_model.specs.declared.values.item.SignalId.{SignalId}
 use Rattle.build_states.specs.Mentions.{Response, input, priority_input, save}
 use Rattle.build_states.specs.States.{Table, named_in}
 use Rattle.sdl_system.specs.Process.{choice_in}

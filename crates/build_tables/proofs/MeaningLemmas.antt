@@ -2,7 +2,7 @@
 use Rattle.std.proofs.Common.{◌≡◌, ◌∙◌, ◌<◌, ◌≤◌, ◌⊎◌, inl, inr, ℕ, zero, suc, Bool, All, List, [], ◌∷◌, Option, None, Some, ap, arith, map, option_map, refl, slice_get, string_bytes, subst, sym, unwrap_or}
 use Rattle.std.specs.List.{AllZip}
 use Rattle.std.proofs.lemmas.List.Elements.{All-head, All-tail}
-use Rattle.port_values.specs.declared.item.SignalId.{SignalId}
+use Rattle.port_model.specs.declared.values.item.SignalId.{SignalId}
 use Rattle.build_states.specs.Mentions as said
 use Rattle.build_states.specs.States as said_of
 use Rattle.build_states.specs.States.{Numbered, Table, meaning_of, named_in}

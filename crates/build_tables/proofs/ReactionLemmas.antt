@@ -1,6 +1,6 @@
 -- Reactions to signals, one signal after another.
 use Rattle.std.proofs.Common.{◌≡◌, ◌∙◌, ◌==◌, ◌+◌, ◌<◌, ◌≤◌, ℕ, Bool, true, false, List, None, Some, ap, arith, if◌then◌else◌, refl, subst, sym}
-use Rattle.port_values.specs.declared.item.SignalId.{SignalId}
+use Rattle.port_model.specs.declared.values.item.SignalId.{SignalId}
 use Rattle.build_states.specs.Mentions.{Response}
 use Rattle.build_states.specs.States.{named_in}
 use Rattle.sdl_system.specs.State.{named_reaction, same_signal}

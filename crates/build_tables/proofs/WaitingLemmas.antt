@@ -2,7 +2,7 @@
 use Rattle.std.proofs.Common.{◌≡◌, ◌∙◌, ◌==◌, ◌++◌, ℕ, Bool, true, false, cond, List, [], ◌∷◌, Option, None, Some, ap, arith, if◌then◌else◌, option_map, map, refl, sym, unwrap_or}
 use Rattle.std.specs.Global.{Vec}
 use Rattle.std.specs.Map.{lookup}
-use Rattle.port_values.specs.declared.item.SignalId.{SignalId}
+use Rattle.port_model.specs.declared.values.item.SignalId.{SignalId}
 use Rattle.build_states.proofs.AnswerLemmas.{append-nil, mapped}
 use Rattle.sdl_system.specs.declared.id.ConditionId.{ConditionId}
 use Rattle.build_tables.specs.Grouped.{group_found, group_of, group_value, same_condition}

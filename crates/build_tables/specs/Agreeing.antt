@@ -2,7 +2,7 @@
 use Rattle.std.specs.Prelude.{◌≡◌, ◌↔◌, ◌≤◌, ℕ, Bool, List, Option, None, Some, Contains, length}
 use Rattle.std.specs.List.{AllZip}
 use Rattle.port_model.specs.Selection as selection
-use Rattle.port_values.specs.declared.item.SignalId.{SignalId}
+use Rattle.port_model.specs.declared.values.item.SignalId.{SignalId}
 use Rattle.build_states.specs.Mentions.{Response, input, priority_input, save}
 use Rattle.build_states.specs.Context.{Context}
 use Rattle.build_states.specs.Reading.{body_read}

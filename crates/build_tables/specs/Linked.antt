@@ -2,7 +2,7 @@
 -- the signals that wait for each condition.
 use Rattle.std.specs.Prelude.{◌≡◌, ◌==◌, ◌<◌, ◌≤◌, ℕ, zero, suc, ◌++◌, Bool, false, List, [], ◌∷◌, Option, None, Some, Contains, if◌then◌else◌, map, option_map, slice_get}
 use Rattle.port_model.specs.Selection as selection
-use Rattle.port_values.specs.declared.item.SignalId.{SignalId}
+use Rattle.port_model.specs.declared.values.item.SignalId.{SignalId}
 use Rattle.port_model.specs.declared.selection.Class.{Class}
 use Rattle.port_model.specs.declared.selection.Class.TheVariants.{Discard}
 use Rattle.build_states.specs.Mentions.{Response, input, priority_input, save}

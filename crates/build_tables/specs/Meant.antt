@@ -2,7 +2,7 @@
 -- numbers for the bodies of those numbers.
 use Rattle.std.specs.Prelude.{◌≡◌, ◌≤◌, ℕ, List, All, Option, None, Some, map, option_map, slice_get}
 use Rattle.std.specs.List.{AllZip}
-use Rattle.port_values.specs.declared.item.SignalId.{SignalId}
+use Rattle.port_model.specs.declared.values.item.SignalId.{SignalId}
 use Rattle.build_states.specs.Mentions as said
 use Rattle.build_states.specs.States as said_of
 use Rattle.build_states.specs.States.{Numbered, Table, named_in}

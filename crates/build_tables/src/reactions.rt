@@ -1,7 +1,7 @@
 //! What is done with the signals that a state names.
 
 ghost use Rattle.std.specs.Prelude.{◌≡◌, Some, IfOk, OnOk, if◌then◌else◌, option_map};
-ghost use Rattle.port_values.specs.declared.item.SignalId.{SignalId};
+ghost use Rattle.port_model.specs.declared.values.item.SignalId.{SignalId};
 ghost use Rattle.build_states.specs.Listed.{rest_value};
 ghost use Rattle.sdl_system.specs.State.{named_reaction, same_signal};
 ghost use Rattle.build_tables.specs.Linked.{ReactionsOf, RestOf};
@@ -10,7 +10,7 @@ use crate::reaction::reaction_of;
 use crate::table_parts::TableParts;
 use build_states::{Named, Response};
 use indexmap::IndexMap;
-use port_values::SignalId;
+use port_model::SignalId;
 use sdl_system::{NodeId, Reaction, Reactions};
 use std::alloc::{AllocError, Global};
 

@@ -4,8 +4,7 @@ ghost use Rattle.std.specs.Prelude.{◌≡◌, IfOk, option_copied};
 ghost use Rattle.build_tables.specs.Linked.{AreClasses, choice_by};
 
 use crate::table_parts::TableParts;
-use port_model::Selection;
-use port_values::SignalId;
+use port_model::{Selection, SignalId};
 use sdl_system::{Choice, Reaction, Reactions, SignalSet};
 use std::alloc::{AllocError, Global};
 

@@ -6,7 +6,7 @@ ghost use Rattle.build_tables.specs.Grouped.{group_of};
 ghost use Rattle.build_tables.specs.Linked.{condition_of, is_for, waiting_for};
 
 use indexmap::IndexMap;
-use port_values::SignalId;
+use port_model::SignalId;
 use sdl_system::{Choice, ConditionId, Reaction, Reactions};
 use std::alloc::{AllocError, Global};
 use std::marker::Model;
@@ -19,7 +19,7 @@ pub struct Waiting {
 
 impl Model for Waiting {
     ghost use Rattle.std.specs.Prelude.{List, map};
-    ghost use Rattle.port_values.specs.declared.item.SignalId.{SignalId};
+    ghost use Rattle.port_model.specs.declared.values.item.SignalId.{SignalId};
     ghost use Rattle.sdl_system.specs.declared.id.ConditionId.{ConditionId};
     ghost use Rattle.build_tables.specs.Grouped.{group_value};
 

@@ -6,9 +6,9 @@ use Rattle.std.proofs.lemmas.List.Elements.{All-nil, All-cons, All-tail}
 use Rattle.std.proofs.lemmas.List.Recursion.{is_count_by}
 use Rattle.input_port.specs.Words.{is_signal, is_signal_entry, of, Entry, Placed, Signal, Timer}
 use Rattle.input_port.specs.Counts.{Flow, FlowsInto, AreApart, IsOfOne, AllIsDrawn, NoFewerAreDrawn, CountsTell, signal_before, signals_in, sent_by, put_by_all}
-use Rattle.port_values.specs.Same.{same_pid, same_pid-Decides}
-use Rattle.port_values.specs.declared.item.Item.{Item}
-use Rattle.port_values.specs.declared.pid.Pid.{Pid}
+use Rattle.port_model.specs.Same.{same_pid, same_pid-Decides}
+use Rattle.port_model.specs.declared.values.item.Item.{Item}
+use Rattle.port_model.specs.declared.values.pid.Pid.{Pid}
 
 -- the entries of all other numbers
 abbrev others : ℕ → List Placed → List Placed

@@ -9,8 +9,8 @@ use Rattle.port_model.specs.declared.selection.Class.{Class}
 use Rattle.port_model.specs.declared.taken.Taken.{Taken}
 use Rattle.input_port.specs.Words.{after_draws, entry_of, left_with, AreNext, AreWaiting, DrewAll, Entry, FinishedState, Finishes, FinishesSince, GatherIs, HasDrawn, HasDrawnHere, HasDrawnSince, IsDrawn, IsKnowing, Leaves, MeetIs, OwnerState, Placed, PortState, PullSinceIs, HeldState, IsTimely, SenderState, TakeIs}
 use Rattle.port_model.specs.Take as take
-use Rattle.port_inbox.proofs.Alive.{after_draws-alive}
-use Rattle.port_queue.proofs.Drawing.{drawn_more, drawn_none}
+use Rattle.port_model.proofs.Alive.{after_draws-alive}
+use Rattle.input_port.proofs.QueueDrawing.{drawn_more, drawn_none}
 
 -- The same after a stop: `grown` is what the owner would be, had its port not been stopped.
 abbrev grown : OwnerState → OwnerState → List Placed → OwnerState

@@ -7,9 +7,9 @@ use Rattle.input_port.specs.Words.{after_draw, after_draws, after_entry, expire_
 use Rattle.input_port.proofs.Drawing.{timely_next}
 use Rattle.port_model.proofs.Histories.{IsLegal-one, IsLegal-append}
 use Rattle.input_port.specs.Headline.{OwnerCall, Taking, Draining, Gathering, Meeting, Setting, Resetting, Stopping, IsCall, Step, Drawn, Called, AreCalls, entry_events, call_events, step_events, history_of, drawn_in, called_in, OwnersHaveHistories, NothingIsLeft}
-use Rattle.port_inbox.proofs.Alive.{after_draws-alive}
-use Rattle.port_queue.proofs.Meeting.{own_same}
-use Rattle.port_queue.proofs.PutLists.{starts_through}
+use Rattle.port_model.proofs.Alive.{after_draws-alive}
+use Rattle.input_port.proofs.Meeting.{own_same}
+use Rattle.input_port.proofs.PutLists.{starts_through}
 
 -- the entries that a call drew
 entry_legal : (pid : ℕ) (port : PortState) (at : ℕ) (entry : Entry) → IsLegal port (entry_events pid at entry) (after_entry pid port at entry)

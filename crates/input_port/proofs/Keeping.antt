@@ -5,8 +5,8 @@ use Rattle.port_model.specs.declared.error.PortError.{PortError}
 use Rattle.port_model.specs.declared.refused.Refused.{Refused}
 use Rattle.port_model.specs.declared.selection.Class.{Class}
 use Rattle.port_model.specs.declared.taken.Taken.{Taken}
-use Rattle.port_inbox.specs.declared.entry.Fuse.{Fuse}
-use Rattle.port_values.specs.declared.timer_key.TimerKey.{TimerKey}
+use Rattle.port_model.specs.declared.inbox.entry.Fuse.{Fuse}
+use Rattle.port_model.specs.declared.values.timer_key.TimerKey.{TimerKey}
 use Rattle.input_port.proofs.Drawing.{drawn-alive, gather-alive, meet-alive, take-alive, timely_next}
 use Rattle.input_port.specs.Words.{after_reset, after_stop, AreNext, Entry, GatherIs, GatherSinceIs, HasDrawn, HasDrawnSince, IsKept, IsTimely, OwnerState, Placed, SenderState, SetIs, TakeIs}
 

@@ -2,3 +2,9 @@ pub mod Counting
 pub mod Drawing
 pub mod Headline
 pub mod Keeping
+pub mod Meeting
+pub mod Moves
+pub mod Passes
+pub mod PutLists
+pub mod QueueDrawing
+pub mod QueueKeeping

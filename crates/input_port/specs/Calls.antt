@@ -2,15 +2,15 @@
 use Rattle.std.specs.Prelude.{◌≡◌, Bool, List, [], ◌∷◌, ◌++◌, map, Result, MatchBool, MatchResult}
 use Rattle.port_model.specs.declared.error.PortError.{PortError}
 use Rattle.port_model.specs.declared.error.PortError.TheVariants.{Memory}
-use Rattle.port_inbox.specs.declared.entry.Entry.{Entry}
+use Rattle.port_model.specs.declared.inbox.entry.Entry.{Entry}
 use Rattle.port_model.specs.declared.refused.Refused.{Refused}
-use Rattle.port_inbox.specs.declared.placed.Placed.{Placed}
-use Rattle.port_inbox.specs.Calls.{after_draws, AreNext, ComesBack, HasDrawn, IsDrawn}
-use Rattle.port_inbox.specs.Ends.{OwnerState}
-use Rattle.port_inbox.specs.Left.{AreWaiting}
-use Rattle.port_inbox.specs.Put.{StartsWith, AllThere}
-use Rattle.port_queue.specs.Calls.{IsGathered}
-use Rattle.port_queue.specs.Ends.{SenderState, FinishedState}
+use Rattle.port_model.specs.declared.inbox.placed.Placed.{Placed}
+use Rattle.port_model.specs.Calls.{after_draws, AreNext, ComesBack, HasDrawn, IsDrawn}
+use Rattle.port_model.specs.Ends.{OwnerState}
+use Rattle.port_model.specs.Left.{AreWaiting}
+use Rattle.port_model.specs.Put.{StartsWith, AllThere}
+use Rattle.input_port.specs.QueueCalls.{IsGathered}
+use Rattle.input_port.specs.QueueEnds.{SenderState, FinishedState}
 
 -- At its end the owner drew these entries, each the next of its number, and came to a fresh point: all that it knew is drawn,
 -- and of the gathered senders all that they put.

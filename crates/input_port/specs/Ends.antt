@@ -1,7 +1,7 @@
 -- What callers see of an owner after its stop, and of an inbox over a shared port.
 use Rattle.std.specs.Prelude.{ℕ, List}
-use Rattle.port_inbox.specs.declared.entry.Entry.{Entry}
-use Rattle.port_inbox.specs.Ends.{OwnerState}
+use Rattle.port_model.specs.declared.inbox.entry.Entry.{Entry}
+use Rattle.port_model.specs.Ends.{OwnerState}
 
 -- what a caller sees of an owner after its stop: the owner, the entries that it has drawn since, which had no effect, and how
 -- many signals it had drawn before

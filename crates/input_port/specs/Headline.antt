@@ -4,18 +4,18 @@ use Rattle.std.specs.List.{filter_map, flat_map}
 use Rattle.port_model.specs.declared.selection.Class.{Class}
 use Rattle.port_model.specs.declared.taken.Taken.{Taken}
 use Rattle.port_model.specs.declared.taken.Taken.TheVariants.{Nothing}
-use Rattle.port_values.specs.declared.timer_key.TimerKey.{TimerKey}
+use Rattle.port_model.specs.declared.values.timer_key.TimerKey.{TimerKey}
 use Rattle.port_model.specs.History.{PortEvent, Put, Expire, Take, Set, Reset, Stop, IsLegal}
 use Rattle.port_model.specs.Port.{empty_port}
-use Rattle.port_inbox.specs.declared.entry.Entry.{Entry}
-use Rattle.port_inbox.specs.declared.entry.Entry.TheVariants.{Signal, Timer}
-use Rattle.port_inbox.specs.declared.entry.Fuse.{Fuse}
-use Rattle.port_inbox.specs.declared.placed.Placed.{Placed}
-use Rattle.port_inbox.specs.Calls.{after_reset, after_stop, IsDrawn, Sets, TakesHere}
-use Rattle.port_queue.specs.Calls.{Gathers, IsGathered, Meets}
-use Rattle.port_inbox.specs.Ends.{OwnerState}
-use Rattle.port_queue.specs.Ends.{SenderState, IsKnowing}
-use Rattle.port_inbox.specs.Put.{of, IsTimely}
+use Rattle.port_model.specs.declared.inbox.entry.Entry.{Entry}
+use Rattle.port_model.specs.declared.inbox.entry.Entry.TheVariants.{Signal, Timer}
+use Rattle.port_model.specs.declared.inbox.entry.Fuse.{Fuse}
+use Rattle.port_model.specs.declared.inbox.placed.Placed.{Placed}
+use Rattle.port_model.specs.Calls.{after_reset, after_stop, IsDrawn, Sets, TakesHere}
+use Rattle.input_port.specs.QueueCalls.{Gathers, IsGathered, Meets}
+use Rattle.port_model.specs.Ends.{OwnerState}
+use Rattle.input_port.specs.QueueEnds.{SenderState, IsKnowing}
+use Rattle.port_model.specs.Put.{of, IsTimely}
 
 -- The headline, from the public contracts alone: each owner has a legal history of the standard's port of one thread, with just
 -- its own calls and what it drew.

@@ -2,12 +2,12 @@
 use Rattle.std.specs.Prelude.{◌≡◌, [], true, false, All, Result, MatchResult}
 use Rattle.port_model.specs.declared.error.PortError.TheVariants.{Memory}
 use Rattle.port_model.specs.declared.refused.Refused.{Refused}
-use Rattle.port_queue.specs.Ends.{FinishedState, SenderState}
+use Rattle.input_port.specs.QueueEnds.{FinishedState, SenderState}
 use Rattle.input_port.specs.Ends.{HeldState}
-use Rattle.port_inbox.specs.Calls.{ComesBack, HasDrawn}
-use Rattle.port_inbox.specs.Ends.{OwnerState}
-use Rattle.port_inbox.specs.Put.{IsTimely}
-use Rattle.port_queue.specs.Calls.{Gathers}
+use Rattle.port_model.specs.Calls.{ComesBack, HasDrawn}
+use Rattle.port_model.specs.Ends.{OwnerState}
+use Rattle.port_model.specs.Put.{IsTimely}
+use Rattle.input_port.specs.QueueCalls.{Gathers}
 use Rattle.input_port.specs.Calls.{Finishes, FinishesSince, GathersSince, HasDrawnSince}
 
 -- No expiry that was drawn came before its due time. Once stopped, no timer is set.

@@ -3,4 +3,11 @@ pub mod Counts
 pub mod Ends
 pub mod Headline
 pub mod Held
+pub mod Kept
+pub mod QueueCalls
+pub mod QueueEnds
+pub mod QueueWords
+pub mod Rule
+pub mod Steps
+pub mod Views
 pub mod Words

@@ -1,11 +1,11 @@
 //! How a port is made.
 
 ghost use Rattle.std.specs.Prelude.{◌≡◌, MatchResult};
-ghost use Rattle.port_queue.specs.Ends.{newborn};
+ghost use Rattle.input_port.specs.QueueEnds.{newborn};
 
 use crate::owner::Owner;
+use crate::queue::{Desk, Port, steps};
 use port_model::PortError;
-use port_queue::{Desk, Port, steps};
 use std::alloc::Global;
 
 /// A port, as it is made: what all threads share, its owner, and the desk that gives out its senders.

@@ -3,15 +3,13 @@
 
 ghost use Rattle.std.specs.Prelude.{◌≡◌, [], true, length, not, All, IfSome};
 ghost use Rattle.input_port.specs.Words.{due_times, signals_drawn, DrainIs, GatherHereIs, HasDrawnHere, IsKept, IsKnowing, IsLeast, IsTimely, LeaveIs};
-ghost use Rattle.port_queue.specs.Kept.{senders_of};
+ghost use Rattle.input_port.specs.Kept.{senders_of};
 
 use crate::owner::Owner;
+use crate::queue::refused::refused;
+use crate::queue::{Finished, Port, Receiver, Sender};
 use crate::since;
-use port_inbox::{Entry, Fuse, Inbox, Refused};
-use port_model::{PortError, Selection, Taken};
-use port_queue::refused::refused;
-use port_queue::{Finished, Port, Receiver, Sender};
-use port_values::{Ticks, TimerKey};
+use port_model::{Entry, Fuse, Inbox, PortError, Refused, Selection, Taken, Ticks, TimerKey};
 use std::marker::Model;
 use std::sync::Wait;
 

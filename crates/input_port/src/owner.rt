@@ -4,12 +4,10 @@
 ghost use Rattle.std.specs.Prelude.{◌≡◌, ◌↔◌, [], true, None, length, IfErr, IfOk, IsErrOf};
 ghost use Rattle.input_port.specs.Words.{after_reset, after_stop, due_times, is_active, left_with, newborn, owner, signals_drawn, AreWaiting, ComesBack, DrainIs, FinishIs, GatherIs, HasDrawn, IsKnowing, IsLeast, MeetIs, MOST_SETS, SetIs, TakeIs};
 
+use crate::queue::refused::refused;
+use crate::queue::{Finished, Pass, Port, Receiver, Sender};
 use crate::retired::Retired;
-use port_inbox::{Entry, Fuse, Refused};
-use port_model::{PortError, Selection, Taken};
-use port_queue::refused::refused;
-use port_queue::{Finished, Pass, Port, Receiver, Sender};
-use port_values::{Ticks, TimerKey};
+use port_model::{Entry, Fuse, PortError, Refused, Selection, Taken, Ticks, TimerKey};
 use std::alloc::Global;
 use std::marker::Model;
 use std::sync::Wait;
@@ -22,7 +20,7 @@ pub struct Owner {
 
 impl Model for Owner {
     ghost use Rattle.std.specs.Prelude.{◌≡◌, true};
-    ghost use Rattle.port_inbox.specs.Ends.{OwnerState};
+    ghost use Rattle.port_model.specs.Ends.{OwnerState};
 
     ghost Value = { OwnerState };
 

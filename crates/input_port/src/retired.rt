@@ -2,10 +2,9 @@
 ghost use Rattle.std.specs.Prelude.{◌≡◌, length, IfErr, IfOk, MatchResult};
 ghost use Rattle.input_port.specs.Words.{signals_drawn, ComesBack, DrainIs, FinishesSince, GathersSince, HasDrawnSince, IsKnowing};
 
+use crate::queue::{Finished, Port, Receiver, Sender};
 use crate::since;
-use port_inbox::{Entry, Refused};
-use port_model::PortError;
-use port_queue::{Finished, Port, Receiver, Sender};
+use port_model::{Entry, PortError, Refused};
 use std::marker::Model;
 use std::sync::Wait;
 

@@ -2,10 +2,9 @@
 ghost use Rattle.std.specs.Prelude.{◌≡◌, ◌<◌, ◌-◌, ◌++◌, map, vec_len, vec_capacity};
 ghost use Rattle.input_port.specs.Words.{entry_of, popped_list, DrainIs, GatherSinceIs, HasDrawnSince, Placed, PullSinceIs};
 
-use port_inbox::{Entry, Placed, Refused};
-use port_model::PortError;
-use port_queue::refused::refused;
-use port_queue::{Port, Receiver, Sender};
+use crate::queue::refused::refused;
+use crate::queue::{Port, Receiver, Sender};
+use port_model::{Entry, Placed, PortError, Refused};
 use std::sync::Wait;
 
 /// Takes a sender in. For lack of memory it comes back, and nothing changes.

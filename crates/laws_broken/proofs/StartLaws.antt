@@ -1,6 +1,6 @@
 -- As many instances of a process are counted as its text says there are at the start.
 use Rattle.std.proofs.Common.{◌≡◌, ◌∙◌, ◌||◌, ◌++◌, ℤ, pos, Bool, true, false, Option, None, Some, ap, if◌then◌else◌, int_lt, refl, subst, sym}
-use Rattle.port_values.specs.declared.value.Value.{Value}
+use Rattle.port_model.specs.declared.values.value.Value.{Value}
 use Rattle.laws_broken.specs.Instances.{InitialCounted, IsBounded, StartsWith, bounded, unbounded, unwritten, written}
 use Rattle.build_constants.proofs.BrokenLaws.{listed-counts}
 use Rattle.build_constants.specs.Broken.{BreaksCounts, IsBrokenInCounts, IsInitial, left_out, stated}

@@ -1,6 +1,6 @@
 -- Constants and answers that break no rule have their values.
 use Rattle.std.proofs.Common.{◌≡◌, ◌++◌, not, Bool, true, false, [], Option, None, Some, if◌then◌else◌, is_none, is_some, option_and_then, refl, sym, subst}
-use Rattle.port_values.specs.declared.value.Value.{Value}
+use Rattle.port_model.specs.declared.values.value.Value.{Value}
 use Rattle.laws_complete.specs.Complete.{HasValue, IsComplete, IsThere}
 use Rattle.laws_complete.specs.Expressions.{HasTerm}
 use Rattle.build_names.specs.Faults.{fault_if, mark_word}

@@ -1,7 +1,7 @@
 -- What states mean whose conditions all come to something.
 use Rattle.std.proofs.Common.{◌≡◌, ◌∙◌, ◌<◌, ℕ, zero, suc, Contains, IfSome, List, [], ◌∷◌, Option, None, Some, ap, arith, length, map, option_map, refl, slice_get, sym}
 use Rattle.std.specs.List.{AllZip}
-use Rattle.port_values.specs.declared.item.SignalId.{SignalId}
+use Rattle.port_model.specs.declared.values.item.SignalId.{SignalId}
 use Rattle.laws_complete.proofs.MentionedLemmas.{Begins, BeginsNumbered, Bounds, IsCondition, IsTable, found-begins, tried-each}
 use Rattle.build_names.specs.FaultLaws.{Each}
 use Rattle.build_states.specs.States.{Numbered, Table, meaning_of, named_in, numbered_from, state_of, table_named, tried}

@@ -2,7 +2,7 @@
 -- their bounds, and something holds of each signal.
 use Rattle.std.proofs.Common.{◌+◌, ◌<◌, ◌++◌, ℕ, Bool, true, false, cond, IfSome, List, [], ◌∷◌, Option, None, Some, filter, fold, if◌then◌else◌, is_some}
 use Rattle.std.specs.Option.{option_or}
-use Rattle.port_values.specs.declared.item.SignalId.{SignalId}
+use Rattle.port_model.specs.declared.values.item.SignalId.{SignalId}
 use Rattle.build_names.proofs.FaultLemmas.{each-both, each-in, each-of}
 use Rattle.build_names.specs.FaultLaws.{Each}
 use Rattle.build_states.specs.States.{Answers, Numbered, Table, comes_first, named_in, no_answers, numbered_from, parts_of, is_part_of, placed, table_of, tried, with_answer, with_mention, with_mentions, with_subjects}

@@ -1,7 +1,7 @@
 -- Transitions that states begin, and signals that they name.
 use Rattle.std.proofs.Common.{◌≡◌, ◌∙◌, ◌==◌, ◌<◌, ◌≤◌, ℕ, zero, suc, Bool, true, false, cond, All, IfSome, List, [], ◌∷◌, Option, None, Some, arith, length, map, option_map, refl, ap, slice_get, subst}
 use Rattle.std.proofs.lemmas.List.Elements.{All-contains, All-cons, All-head, All-nil, All-tail}
-use Rattle.port_values.specs.declared.item.SignalId.{SignalId}
+use Rattle.port_model.specs.declared.values.item.SignalId.{SignalId}
 use Rattle.laws_complete.proofs.MentionedLemmas.{Begins, Bounds, BeginsNumbered, IsTable, IsSaid, found-begins, tried-each}
 use Rattle.laws_complete.proofs.ReadLemmas.{bounds_of, process-table}
 use Rattle.laws_complete.specs.Ranges.{EntriesReach, IsBelow, SignalsWithin}

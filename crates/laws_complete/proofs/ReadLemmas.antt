@@ -1,7 +1,7 @@
 -- What the parts of a process say: each begins transitions of the process alone, asks conditions of it, and speaks of
 -- what names stand for.
 use Rattle.std.proofs.Common.{◌≡◌, ◌+◌, ◌<◌, ◌≤◌, ℕ, suc, IfSome, List, [], ◌∷◌, Option, None, Some, arith, flat_map, fold, length, length-append, map, refl}
-use Rattle.port_values.specs.declared.item.SignalId.{SignalId}
+use Rattle.port_model.specs.declared.values.item.SignalId.{SignalId}
 use Rattle.build_process.proofs.OrderLemmas.{stimuli-in-order}
 use Rattle.laws_complete.proofs.StayLemmas.{condition-among, last-among, parts-stay, stimuli-stay, within}
 use Rattle.laws_complete.proofs.MentionedLemmas.{Begins, BeginsContinuous, Bounds, IsCondition, IsMention, IsPart, IsTable, Speaks, table-named}

@@ -2,7 +2,7 @@
 -- in it is refused.
 use Rattle.std.proofs.Common.{◌≡◌, ◌∙◌, ◌&&◌, ◌||◌, ◌++◌, ℕ, not, Bool, true, false, List, [], Option, None, Some, is_none, option_map, if◌then◌else◌, refl, ap, sym}
 use Rattle.std.specs.Option.{option_and_then}
-use Rattle.port_values.specs.declared.value.Value.{Value}
+use Rattle.port_model.specs.declared.values.value.Value.{Value}
 use Rattle.laws_complete.proofs.EmptyLemmas.{left-empty, not-broken, right-empty}
 use Rattle.laws_complete.specs.Complete.{HasValue, IsThere}
 use Rattle.build_names.specs.Faults.{fault_if}

@@ -1,6 +1,6 @@
 -- When the names that are seen at a place lack nothing: each has its sort, and each synonym its value.
 use Rattle.std.specs.Prelude.{◌≡◌, ℕ, true, List, [], ◌∷◌, Option, None, Some}
-use Rattle.port_values.specs.declared.item.SignalId.{SignalId}
+use Rattle.port_model.specs.declared.values.item.SignalId.{SignalId}
 use Rattle.build_statements.specs.Contexts.{Context, duration_of}
 use Rattle.build_expressions.specs.Scope.{AgentMeaning, Scope, SignalMeaning, agent_in, block, process, signal, signal_in, timer, value_in}
 use Rattle.build_expressions.specs.declared.scope.Constant.{Constant}

@@ -1,6 +1,6 @@
 -- Where no rule is broken in the definitions of a specification, its names lack nothing.
 use Rattle.std.specs.Prelude.{◌≡◌, ℕ, ◌+◌, ◌<◌, List, [], ◌∷◌, Some, length, slice_get}
-use Rattle.port_values.specs.declared.item.SignalId.{SignalId}
+use Rattle.port_model.specs.declared.values.item.SignalId.{SignalId}
 use Rattle.build_process.specs.Numbered.{AreDifferent, numbered}
 use Rattle.laws_complete.specs.Complete.{AreThere, HasDurations, HasValue, IsComplete, IsThere}
 use Rattle.build_definitions.specs.Parts.{all_sort_faults, parts_in}

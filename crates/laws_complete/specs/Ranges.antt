@@ -1,7 +1,7 @@
 -- Numbers in what the states of a process say are below what they count (Z.101: state, input, save; Z.102: priority
 -- input, continuous signal).
 use Rattle.std.specs.Prelude.{◌≡◌, ◌<◌, ℕ, All, List, Some, length}
-use Rattle.port_values.specs.declared.item.SignalId.{SignalId}
+use Rattle.port_model.specs.declared.values.item.SignalId.{SignalId}
 use Rattle.build_flow.specs.Beginnings.{beginnings}
 use Rattle.build_process.specs.Meant.{NamesSignals}
 use Rattle.build_expressions.specs.Scope.{SignalMeaning, signal_in}

@@ -4,11 +4,11 @@ use Rattle.std.proofs.lemmas.List.Elements.{All-append, All-cons, All-contains, 
 use Rattle.std.proofs.lemmas.Option.{get_or_from_slice_get, none-some, slice_get_within}
 use Rattle.std.specs.List.{AllZip}
 use Rattle.std.specs.List.Sorted.{IsNonDecreasingBy}
-use Rattle.port_inbox.specs.declared.entry.Fuse.{Fuse}
+use Rattle.port_model.specs.declared.inbox.entry.Fuse.{Fuse}
 use Rattle.port_model.specs.Timers.{IsLeast, earlier}
-use Rattle.port_values.specs.declared.pid.Pid.TheVariants as pid
-use Rattle.port_values.specs.declared.pid.Pid.TheVariants.{Of}
-use Rattle.port_values.specs.declared.value.Value.{Value}
+use Rattle.port_model.specs.declared.values.pid.Pid.TheVariants as pid
+use Rattle.port_model.specs.declared.values.pid.Pid.TheVariants.{Of}
+use Rattle.port_model.specs.declared.values.value.Value.{Value}
 use Rattle.serial_order.specs.Execution.{Execution, Expired, Follows, Happening, Heard, IsNoFuseBefore, IsNoLineBefore, Moved, Steps, Ticked, Ticks, begins, goes, next_line}
 use Rattle.serial_order.specs.RunState.{RunState, after_effect, after_effects, world_at, beginning, change_at, changed_at, first_instances, first_of, instance_at, instance_of, with_created, with_expiry, with_instance, with_put}
 use Rattle.serial_order.specs.Report.{Closes, Ends}

@@ -4,8 +4,8 @@ use Rattle.std.specs.List.{range_with_len}
 use Rattle.std.proofs.lemmas.List.{length-set}
 use Rattle.std.proofs.lemmas.List.Sums.{sum_by-cons, sum_by_push}
 use Rattle.std.proofs.lemmas.Option.{same_Some, slice_get_within}
-use Rattle.port_values.specs.declared.pid.Pid.TheVariants.{Of}
-use Rattle.port_values.specs.declared.value.Value.{Value}
+use Rattle.port_model.specs.declared.values.pid.Pid.TheVariants.{Of}
+use Rattle.port_model.specs.declared.values.value.Value.{Value}
 use Rattle.serial_order.proofs.Made.{MakesNext}
 use Rattle.serial_order.specs.RunState.{RunState, after_effect, living_of, change_at, changed_at, count_living, instance_at, instance_of, is_ended, least_living, lives_of, with_expiry, with_put}
 use Rattle.laws_creates.proofs.Creates.{create_is}

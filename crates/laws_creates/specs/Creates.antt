@@ -1,7 +1,7 @@
 -- Whom a serial run creates (Z.101: agent; Z.102: create).
 use Rattle.std.specs.Prelude.{◌≡◌, ◌++◌, ℕ, List, [], ◌∷◌, Some, length, map}
 use Rattle.std.specs.List.{flat_map, range_with_len}
-use Rattle.port_values.specs.declared.pid.Pid.TheVariants.{Of}
+use Rattle.port_model.specs.declared.values.pid.Pid.TheVariants.{Of}
 use Rattle.serial_order.specs.Execution.{Happening, Moved}
 use Rattle.serial_order.specs.RunState.{beginning}
 use Rattle.serial_order.specs.Laws.{AtEachEnd}

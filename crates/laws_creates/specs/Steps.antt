@@ -1,8 +1,8 @@
 -- What each step of a serial run, and each line that is heard, do outside (Z.101: agent; Z.102: create, output).
 use Rattle.std.specs.Prelude.{◌≡◌, ◌≢◌, ◌≤◌, ℕ, List, [], ◌∷◌, ◌++◌, None, Some, length, slice_get}
-use Rattle.port_values.specs.declared.item.SignalId.{SignalId}
-use Rattle.port_values.specs.declared.pid.Pid.TheVariants.{Of}
-use Rattle.port_values.specs.declared.value.Value.{Value}
+use Rattle.port_model.specs.declared.values.item.SignalId.{SignalId}
+use Rattle.port_model.specs.declared.values.pid.Pid.TheVariants.{Of}
+use Rattle.port_model.specs.declared.values.value.Value.{Value}
 use Rattle.serial_order.specs.Execution.{Execution, Happening, Hears, Steps}
 use Rattle.serial_order.specs.RunState.{RunState, after_effects, beginning, living_of, count_living, instance_at, least_living}
 use Rattle.serial_order.specs.Laws.{AtEachEnd}

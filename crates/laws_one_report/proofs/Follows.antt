@@ -3,7 +3,7 @@ use Rattle.std.proofs.Common.{◌≡◌, ◌∙◌, ◌+◌, ◌<◌, ◌≤◌,
 use Rattle.std.proofs.lemmas.List.Elements.{All-contains, All-head, All-nil}
 use Rattle.std.proofs.lemmas.Option.{get_or_from_slice_get, none-some, same_Some, slice_get_within}
 use Rattle.std.specs.Prelude.{Contains}
-use Rattle.port_inbox.specs.declared.entry.Fuse.{Fuse}
+use Rattle.port_model.specs.declared.inbox.entry.Fuse.{Fuse}
 use Rattle.port_model.specs.Timers.{IsLeast, earlier}
 use Rattle.serial_order.specs.Execution.{Expired, Expires, Follows, Happening, Heard, Hears, IsNoFuseBefore, IsNoLineBefore, Moved, Rests, Steps, Ticked, Ticks, next_line}
 use Rattle.serial_order.specs.RunState.{RunState, after_effects, expired, heard_effects, instance_at}

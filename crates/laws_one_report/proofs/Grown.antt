@@ -1,8 +1,8 @@
 -- What an instance did stays in its record: nothing lacks before where nothing lacks behind.
 use Rattle.std.proofs.Common.{◌≡◌, ◌⊎◌, ◌∙◌, ◌++◌, ap, append_assoc, append-nil, if◌then◌else◌, inl, inr, nat_le, refl, set, slice_get, subst, sym, ℕ, zero, suc, Bool, true, false, List, [], ◌∷◌, Option, None, Some}
 use Rattle.std.proofs.lemmas.Option.{none-some, same_Some}
-use Rattle.port_values.specs.declared.pid.Pid.TheVariants.{Of}
-use Rattle.port_values.specs.declared.value.Value.{Value}
+use Rattle.port_model.specs.declared.values.pid.Pid.TheVariants.{Of}
+use Rattle.port_model.specs.declared.values.value.Value.{Value}
 use Rattle.serial_order.specs.Execution.{Expired, Follows, Happening, Heard, Moved, Steps, Ticked}
 use Rattle.serial_order.specs.RunState.{RunState, after_effect, after_effects, change_at, changed_at, instance_at, instance_of, with_created, with_expiry, with_instance, with_put}
 use Rattle.run_evaluation.specs.declared.identity.Identity.{Identity}

@@ -1,7 +1,7 @@
 -- Two steps from one state of the whole are the same.
 use Rattle.std.proofs.Common.{◌≡◌, ◌∙◌, ◌++◌, ap, map, refl, slice_get, subst, sym, ℕ, List, [], ◌∷◌}
 use Rattle.std.proofs.lemmas.Option.{same_Some}
-use Rattle.port_inbox.specs.Ends.{single}
+use Rattle.port_model.specs.Ends.{single}
 use Rattle.port_model.specs.Port.{PortState}
 use Rattle.serial_order.specs.Execution.{Moved, Steps, is_transition}
 use Rattle.serial_order.specs.RunState.{RunState, after_effects, world_at, instance_at, with_instance}

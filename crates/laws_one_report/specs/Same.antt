@@ -1,6 +1,6 @@
 -- What two executions of a system, and two serial reports, have in common (Z.101: system).
 use Rattle.std.specs.Prelude.{◌≡◌, ℕ, List, [], All, length, map}
-use Rattle.port_inbox.specs.Ends.{single}
+use Rattle.port_model.specs.Ends.{single}
 use Rattle.run_semantics.specs.Behaves.{AreBehaviours}
 use Rattle.serial_order.specs.Execution.{Execution, Expired, Happening, Heard, Moved, Ticked}
 use Rattle.serial_order.specs.RunState.{RunState}

@@ -4,7 +4,7 @@ use Rattle.std.proofs.lemmas.Bool.{lt-ltb}
 use Rattle.port_model.specs.History.{IsLegal, PortEvent, PortStep, Stop}
 use Rattle.port_model.specs.Port.{PortState, remove_from, stopped}
 use Rattle.port_model.specs.declared.plain_port.TheConstants.{MOST_SETS}
-use Rattle.port_values.specs.declared.value.Value.{Value}
+use Rattle.port_model.specs.declared.values.value.Value.{Value}
 use Rattle.run_evaluation.specs.Environment.{environment}
 use Rattle.run_evaluation.specs.Value.{at_place, key_at, placed, value_of, values_at}
 use Rattle.run_evaluation.specs.declared.identity.Identity.{Identity}

@@ -5,7 +5,7 @@ use Rattle.port_model.specs.History.{IsLegal, PortEvent, PortStep, Take}
 use Rattle.port_model.specs.Port.{PortState, stopped}
 use Rattle.port_model.specs.Take.{Takes, name_of}
 use Rattle.port_model.specs.declared.got.Got.{Got}
-use Rattle.port_values.specs.declared.item.SignalId.{SignalId}
+use Rattle.port_model.specs.declared.values.item.SignalId.{SignalId}
 use Rattle.port_model.specs.declared.selection.Class.{Class}
 use Rattle.port_model.specs.declared.taken.Taken.{Taken}
 use Rattle.port_model.specs.declared.taken.Taken.TheVariants.{Consumed, Discarded, Nothing}

@@ -2,7 +2,7 @@
 use Rattle.std.proofs.Common.{◌≡◌, ◌∙◌, ℕ, Bool, IfSome, List, [], ◌∷◌, Some, ap, map, max, refl, subst, sym, append-nil}
 use Rattle.std.proofs.lemmas.List.Elements.{All-head, All-tail}
 use Rattle.std.specs.List.{flat_map}
-use Rattle.port_inbox.specs.declared.placed.Placed.{Placed}
+use Rattle.port_model.specs.declared.inbox.placed.Placed.{Placed}
 use Rattle.port_model.specs.History.{IsLegal}
 use Rattle.port_model.specs.Port.{PortState}
 use Rattle.port_model.specs.declared.selection.Class.{Class}

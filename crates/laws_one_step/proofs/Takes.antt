@@ -6,7 +6,7 @@ use Rattle.port_model.specs.Selection.{class_of}
 use Rattle.port_model.specs.Take.{HasClass, IsOrdinary, IsSaved, Takes, TakesFirst, name_of}
 use Rattle.port_model.specs.Timers.{after_taking}
 use Rattle.port_model.specs.declared.got.Got.{Got}
-use Rattle.port_values.specs.declared.item.SignalId.{SignalId}
+use Rattle.port_model.specs.declared.values.item.SignalId.{SignalId}
 use Rattle.port_model.specs.declared.selection.Class.{Class}
 use Rattle.port_model.specs.declared.selection.Class.TheVariants as class
 use Rattle.port_model.specs.declared.taken.Taken.{Taken}

@@ -1,6 +1,6 @@
 -- Where statements stand in a table of nodes, and where a decision and a label lead.
 use Rattle.std.proofs.Common.{◌≡◌, ◌∙◌, Bool, true, false, List, [], ◌∷◌, Option, None, Some, ap, subst, sym, unwrap_or, if◌then◌else◌}
-use Rattle.port_values.specs.declared.value.Value.{Value}
+use Rattle.port_model.specs.declared.values.value.Value.{Value}
 use Rattle.sdl_system.proofs.BodyLemmas.{Has-followed}
 use Rattle.sdl_system.specs.Answer.{meets_one}
 use Rattle.sdl_system.specs.Body as body

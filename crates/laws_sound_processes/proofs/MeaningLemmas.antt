@@ -3,7 +3,7 @@ use Rattle.std.proofs.Common.{◌≡◌, ◌∙◌, ◌<◌, ◌≤◌, ℕ, All
 use Rattle.std.proofs.lemmas.List.Elements.{All-cons, All-head, All-nil, All-tail}
 use Rattle.std.proofs.lemmas.Bool.{cases_lt}
 use Rattle.std.specs.List.{AllZip}
-use Rattle.port_values.specs.declared.item.SignalId.{SignalId}
+use Rattle.port_model.specs.declared.values.item.SignalId.{SignalId}
 use Rattle.build_process.proofs.EndLemmas.{map-some, some-same}
 use Rattle.laws_complete.proofs.MentionedLemmas.{Begins, BeginsNumbered, Bounds, IsTable, found-begins, tried-each}
 use Rattle.build_process.specs.Meant.{NamesSignals}

@@ -3,7 +3,7 @@
 use Rattle.std.specs.Prelude.{◌≡◌, ℕ, true, List, [], Ok}
 use Rattle.port_model.specs.History.{PortEvent}
 use Rattle.port_model.specs.Port.{PortState}
-use Rattle.port_values.specs.declared.value.Value.{Value}
+use Rattle.port_model.specs.declared.values.value.Value.{Value}
 use Rattle.build_flow.specs.Beginnings.{beginnings}
 use Rattle.build_flow.specs.Reach.{AreReached}
 use Rattle.run_evaluation.specs.Environment.{environment}

@@ -1,7 +1,7 @@
 -- When what a state does is sound (Z.101: state, input, save; Z.102: priority input, enabling condition, continuous
 -- signal).
 use Rattle.std.specs.Prelude.{◌≡◌, ◌<◌, ℕ, true, All, IfSome, List, [], ◌∷◌, Option, None, Some, length, slice_get}
-use Rattle.port_values.specs.declared.item.SignalId.{SignalId}
+use Rattle.port_model.specs.declared.values.item.SignalId.{SignalId}
 use Rattle.build_expressions.specs.OperandSorts.{fits, kind_of}
 use Rattle.laws_sound_runs.specs.Kinds.{FitsPlace}
 use Rattle.sdl_system.specs.Behaviour.{ContinuousSignal, Response, StateMeaning, input, priority_input, save}

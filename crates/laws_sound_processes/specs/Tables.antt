@@ -1,6 +1,6 @@
 -- The table of a state, where what the process does is sound (Z.101: state).
 use Rattle.std.specs.Prelude.{◌≡◌, All, IfSome, Some}
-use Rattle.port_values.specs.declared.item.SignalId.{SignalId}
+use Rattle.port_model.specs.declared.values.item.SignalId.{SignalId}
 use Rattle.laws_sound_processes.specs.Behaviours.{IsSoundBehaviour}
 use Rattle.sdl_system.specs.Behaviour.{Behaviour, Means}
 use Rattle.sdl_system.specs.Process.{table_of}

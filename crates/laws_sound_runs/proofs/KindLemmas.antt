@@ -1,8 +1,8 @@
 -- The term of an expression is of the kind that the expression has.
 use Rattle.std.proofs.Common.{◌≡◌, ◌&&◌, Bool, true, false, List, [], ◌∷◌, Option, None, Some, if◌then◌else◌, map, option_map, refl, sym, subst}
-use Rattle.port_values.specs.declared.item.SignalId.{SignalId}
-use Rattle.port_values.specs.declared.pid.Pid.TheVariants.{Null}
-use Rattle.port_values.specs.declared.value.Value.TheVariants as value
+use Rattle.port_model.specs.declared.values.item.SignalId.{SignalId}
+use Rattle.port_model.specs.declared.values.pid.Pid.TheVariants.{Null}
+use Rattle.port_model.specs.declared.values.value.Value.TheVariants as value
 use Rattle.build_expressions.specs.Contexts.{allows_instance, allows_word}
 use Rattle.build_expressions.specs.OperandSorts.{fits, kind_of, result_of, unary_result_of}
 use Rattle.build_expressions.specs.Partial.{both}

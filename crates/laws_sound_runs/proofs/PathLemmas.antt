@@ -1,6 +1,6 @@
 -- What holds of each statement of a body holds of what stands behind it, from a label on, and in a part that is chosen.
 use Rattle.std.proofs.Common.{◌≡◌, Bool, true, false, List, Some, if◌then◌else◌, subst}
-use Rattle.port_values.specs.declared.value.Value.{Value}
+use Rattle.port_model.specs.declared.values.value.Value.{Value}
 use Rattle.laws_sound_runs.specs.Paths.{Every, EveryPart, IsPartOf, Meets, Reaches, at_once, behind_else, by_join, first_part, later_part}
 use Rattle.sdl_system.specs.Answer.{meets_one}
 use Rattle.sdl_system.specs.Body as body

@@ -1,8 +1,8 @@
 -- Of which kind a term is in a process of a system, and of which kind a value (Z.104: expressions).
 use Rattle.std.specs.Prelude.{◌≡◌, Bool, true, false, List, [], ◌∷◌, Some, slice_get}
-use Rattle.port_values.specs.declared.item.SignalId.{SignalId}
-use Rattle.port_values.specs.declared.value.Value.{Value}
-use Rattle.port_values.specs.declared.value.Value.TheVariants as value
+use Rattle.port_model.specs.declared.values.item.SignalId.{SignalId}
+use Rattle.port_model.specs.declared.values.value.Value.{Value}
+use Rattle.port_model.specs.declared.values.value.Value.TheVariants as value
 use Rattle.build_expressions.specs.OperandSorts.{fits, kind_of, result_of, unary_result_of}
 use Rattle.build_expressions.specs.declared.operand_sort.OperandSort.{OperandSort}
 use Rattle.build_expressions.specs.declared.operand_sort.OperandSort.TheVariants.{Free, Integer, Time, Duration, Boolean, Pid}

@@ -4,7 +4,7 @@ use Rattle.std.proofs.lemmas.Int.{ints}
 use Rattle.std.proofs.lemmas.List.{length-append, length-map}
 use Rattle.std.proofs.lemmas.List.Elements.{All-head, All-tail}
 use Rattle.std.specs.Int.{FitsUnsignedBits}
-use Rattle.port_values.specs.declared.value.Value.{Value}
+use Rattle.port_model.specs.declared.values.value.Value.{Value}
 use Rattle.sdl_build.proofs.MadeLemmas.{get-below}
 use Rattle.sdl_build.proofs.WholeLemmas.{faultless}
 use Rattle.sdl_build.specs.Built.{IsBuilt}

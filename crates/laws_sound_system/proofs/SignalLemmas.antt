@@ -2,7 +2,7 @@
 use Rattle.std.proofs.Common.{◌≡◌, ◌∙◌, ◌++◌, ◌+◌, ℕ, ℤ, zero, suc, List, [], ◌∷◌, Option, None, Some, arith, flat_map, length, map, refl, ap, slice_get, sym}
 use Rattle.std.proofs.lemmas.List.{append_assoc, length-append}
 use Rattle.std.specs.Option.{unwrap_or}
-use Rattle.port_values.specs.declared.item.SignalId.{SignalId}
+use Rattle.port_model.specs.declared.values.item.SignalId.{SignalId}
 use Rattle.sdl_build.specs.Signals.{known_sort, signal_from, signal_of, signals_from, timer_at, timer_of}
 use Rattle.sdl_build.specs.Signals as made
 use Rattle.laws_complete.specs.Complete.{AreThere}

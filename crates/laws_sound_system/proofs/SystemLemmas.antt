@@ -6,7 +6,7 @@ use Rattle.std.proofs.lemmas.List.Elements.{All-cons, All-nil, Contains-get_or}
 use Rattle.std.proofs.lemmas.Option.{slice_get_within}
 use Rattle.std.proofs.lemmas.Slice.Zip.{AllZip-long}
 use Rattle.std.specs.Str.{bytes_eq}
-use Rattle.port_values.specs.declared.item.SignalId.{SignalId}
+use Rattle.port_model.specs.declared.values.item.SignalId.{SignalId}
 use Rattle.sdl_build.proofs.MadeLemmas.{same-one}
 use Rattle.sdl_build.proofs.WholeLemmas.{faultless, told-none}
 use Rattle.sdl_build.specs.Built.{IsBuilt, IsSystem, named_processes, own_from}

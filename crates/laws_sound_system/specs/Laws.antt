@@ -2,8 +2,8 @@
 use Rattle.std.specs.Prelude.{◌≡◌, ◌<◌, ◌≤◌, ℕ, All, IfSome, List, Some, length, slice_get}
 use Rattle.port_model.specs.History.{PortEvent}
 use Rattle.port_model.specs.Port.{PortState}
-use Rattle.port_values.specs.declared.item.SignalId.{SignalId}
-use Rattle.port_values.specs.declared.value.Value.{Value}
+use Rattle.port_model.specs.declared.values.item.SignalId.{SignalId}
+use Rattle.port_model.specs.declared.values.value.Value.{Value}
 use Rattle.sdl_build.specs.Built.{IsBuilt}
 use Rattle.sdl_build.specs.Laws.{CanRun}
 use Rattle.sdl_build.specs.ProcessScope.{process_scope}

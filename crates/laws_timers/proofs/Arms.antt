@@ -1,7 +1,7 @@
 -- What the sets of an instance arm, and the timers that run in its port behind a step.
 use Rattle.std.proofs.Common.{◌≡◌, ◌⊎◌, ◌++◌, ◌+◌, arith, inl, inr, refl, subst, sym, ℕ, suc, List, [], ◌∷◌, None, Some}
 use Rattle.std.specs.Prelude.{Contains}
-use Rattle.port_inbox.specs.declared.entry.Fuse.{Fuse}
+use Rattle.port_model.specs.declared.inbox.entry.Fuse.{Fuse}
 use Rattle.port_model.specs.History.{PortEvent, Reset, Set, Stop, Take}
 use Rattle.port_model.specs.Port.{PortState}
 use Rattle.port_model.specs.declared.taken.Taken.TheVariants as taken

@@ -2,12 +2,12 @@
 use Rattle.std.proofs.Common.{◌≡◌, ◌∙◌, ◌⊎◌, ◌+◌, ◌<◌, ◌≤◌, ◌==◌, inl, inr, ap, arith, if◌then◌else◌, refl, subst, sym, ℕ, zero, suc, nat_eq, nat_le, Bool, true, false, List, [], ◌∷◌, Option, None, Some, slice_get}
 use Rattle.std.specs.Prelude.{Contains}
 use Rattle.std.proofs.lemmas.List.Elements.{All-contains, All-nil}
-use Rattle.port_inbox.specs.declared.entry.Fuse.{Fuse}
+use Rattle.port_model.specs.declared.inbox.entry.Fuse.{Fuse}
 use Rattle.port_model.specs.Port.{expire_in}
-use Rattle.port_values.specs.declared.item.Item.{Item}
-use Rattle.port_values.specs.declared.pid.Pid.TheVariants as pid
+use Rattle.port_model.specs.declared.values.item.Item.{Item}
+use Rattle.port_model.specs.declared.values.pid.Pid.TheVariants as pid
 use Rattle.port_model.specs.declared.timer.ActiveTimer.{ActiveTimer}
-use Rattle.port_values.specs.declared.value.Value.{Value}
+use Rattle.port_model.specs.declared.values.value.Value.{Value}
 use Rattle.serial_order.specs.Execution.{Execution, Expired, Follows, Happening, Heard, Moved, Steps, Ticked, begins, goes}
 use Rattle.serial_order.specs.RunState.{RunState, after_effect, after_effects, beginning, change_at, first_instances, first_of, instance_of, with_created, with_expiry, with_instance, with_put}
 use Rattle.serial_order.specs.Report.{Ends, EndsWhole}

@@ -1,8 +1,8 @@
 -- No expiry is before its due time: the clock is never more than one tick behind what is to be done.
 use Rattle.std.proofs.Common.{◌≡◌, ◌∙◌, ◌+◌, ◌++◌, ◌&&◌, ◌≤◌, ◌==◌, ap, arith, if◌then◌else◌, refl, subst, sym, ℕ, Bool, true, false, List, [], ◌∷◌, nat_le}
-use Rattle.port_inbox.specs.declared.entry.Fuse.{Fuse}
+use Rattle.port_model.specs.declared.inbox.entry.Fuse.{Fuse}
 use Rattle.port_model.specs.History.{Expire, PortEvent, Put, Reset, Set, Stop, Take}
-use Rattle.port_values.specs.declared.item.Item.{Item}
+use Rattle.port_model.specs.declared.values.item.Item.{Item}
 use Rattle.serial_order.specs.Execution.{Execution, Expired, Follows, Happening, Heard, Moved, Steps, Ticked, begins, goes}
 use Rattle.serial_order.specs.RunState.{RunState, after_effect, after_effects, beginning, change_at, with_expiry, with_instance}
 use Rattle.serial_order.specs.Told.{Moment, comes_by, comes_by_one, expiry_by, first_moment, given_after_one, history_from, history_of_one, is_there, moment_after, put_by}

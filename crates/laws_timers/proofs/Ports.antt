@@ -1,7 +1,7 @@
 -- The timers that run in a port, by what happens to it: a set alone makes one run, and its own expiry ends it.
 use Rattle.std.proofs.Common.{◌≡◌, ◌∙◌, ◌⊎◌, ◌&&◌, ◌||◌, ◌++◌, ◌+◌, ◌≤◌, inl, inr, ap, arith, if◌then◌else◌, refl, subst, sym, ℕ, nat_eq, nat_le, not, Bool, true, false, List, [], ◌∷◌}
 use Rattle.std.proofs.lemmas.List.Elements.{All-cons, All-filter, All-head, All-map, All-nil, All-push, All-tail, All-weaker}
-use Rattle.port_inbox.specs.declared.entry.Fuse.{Fuse}
+use Rattle.port_model.specs.declared.inbox.entry.Fuse.{Fuse}
 use Rattle.port_model.proofs.Keys.{same_key-Decides}
 use Rattle.port_model.specs.History.{Expire, IsLegal, PortEvent, PortStep, Put, Reset, Set, Stop, Take}
 use Rattle.port_model.specs.Laws.{IsFromOutside}
@@ -10,14 +10,14 @@ use Rattle.port_model.specs.Take.{Takes, TakesFirst}
 use Rattle.port_model.specs.Timers.{after_taking, is_running, same_key, same_phase, waiting_timer, with_waiting, without_key}
 use Rattle.port_model.specs.declared.got.Got.{Got}
 use Rattle.port_model.specs.declared.got.Got.TheVariants.{Signal, Timer}
-use Rattle.port_values.specs.declared.item.Item.{Item}
+use Rattle.port_model.specs.declared.values.item.Item.{Item}
 use Rattle.port_model.specs.declared.selection.Class.{Class}
 use Rattle.port_model.specs.declared.taken.Taken.{Taken}
 use Rattle.port_model.specs.declared.taken.Taken.TheVariants.{Consumed, Discarded, Nothing}
 use Rattle.port_model.specs.declared.timer.ActiveTimer.{ActiveTimer}
 use Rattle.port_model.specs.declared.timer.Phase.{Phase}
 use Rattle.port_model.specs.declared.timer.Phase.TheVariants.{Running, Waiting}
-use Rattle.port_values.specs.declared.timer_key.TimerKey.{TimerKey}
+use Rattle.port_model.specs.declared.values.timer_key.TimerKey.{TimerKey}
 use Rattle.laws_timers.proofs.Numbers.{eq_is}
 use Rattle.laws_timers.specs.Fused.{AreFused, IsOfFuse}
 

@@ -2,10 +2,10 @@
 use Rattle.std.proofs.Common.{◌≡◌, ◌∙◌, ◌⊎◌, ◌++◌, append-nil, append_assoc, ap, if◌then◌else◌, inl, inr, refl, subst, sym, ℕ, nat_le, Bool, true, false, List, [], ◌∷◌, None, Option, Some}
 use Rattle.std.specs.Prelude.{All, Contains}
 use Rattle.std.proofs.lemmas.List.Elements.{All-nil, All-rest, All-weaker, Contains-append_left, Contains-append_right}
-use Rattle.port_inbox.specs.declared.entry.Fuse.{Fuse}
+use Rattle.port_model.specs.declared.inbox.entry.Fuse.{Fuse}
 use Rattle.port_model.specs.History.{PortEvent, Set}
 use Rattle.port_model.specs.Port.{PortState}
-use Rattle.port_values.specs.declared.value.Value.{Value}
+use Rattle.port_model.specs.declared.values.value.Value.{Value}
 use Rattle.serial_order.specs.Execution.{Execution, Expired, Follows, Happening, Heard, Moved, Steps, Ticked, begins, goes}
 use Rattle.serial_order.specs.RunState.{RunState, after_effect, after_effects, beginning, change_at, heard_effects, with_expiry, with_instance}
 use Rattle.serial_order.specs.Told.{Moment, comes_by, first_moment, history_from, history_of, history_of_one, moment_after}

@@ -1,11 +1,11 @@
 -- The timers of a serial run, their fuses, and when these expire (Z.102: timer).
 use Rattle.std.specs.Prelude.{◌≡◌, ◌<◌, ◌≤◌, ℕ, true, List, [], ◌∷◌, ◌++◌, All, Contains, Some}
-use Rattle.port_inbox.specs.declared.entry.Fuse.{Fuse}
+use Rattle.port_model.specs.declared.inbox.entry.Fuse.{Fuse}
 use Rattle.port_model.specs.History.{Expire, PortEvent, Set}
 use Rattle.port_model.specs.declared.timer.ActiveTimer.{ActiveTimer}
 use Rattle.port_model.specs.declared.timer.Phase.{Phase}
 use Rattle.port_model.specs.declared.timer.Phase.TheVariants.{Running, Waiting}
-use Rattle.port_values.specs.declared.timer_key.TimerKey.{TimerKey}
+use Rattle.port_model.specs.declared.values.timer_key.TimerKey.{TimerKey}
 use Rattle.run_semantics.specs.Behaves.{AreBehaviours}
 use Rattle.serial_order.specs.Execution.{Expired, Happening, Heard, Moved, Ticked}
 use Rattle.serial_order.specs.RunState.{instance_at}

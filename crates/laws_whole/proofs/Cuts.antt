@@ -7,10 +7,10 @@ use Rattle.laws_whole.proofs.Hearing.{line_effects}
 use Rattle.laws_whole.proofs.Lists.{split_append}
 use Rattle.laws_whole.proofs.Naming.{AreByPid, IsByPid, IsLineByPid}
 use Rattle.laws_whole.proofs.Sending.{all_comes, deeds_send, given_after-append, given_more, no_put, not_there_is, puts_by-append, sent_to-append}
-use Rattle.port_values.specs.declared.item.Item.{Item}
-use Rattle.port_values.specs.declared.item.SignalId.{SignalId}
-use Rattle.port_values.specs.declared.pid.Pid.TheVariants.{Of}
-use Rattle.port_values.specs.declared.value.Value.{Value}
+use Rattle.port_model.specs.declared.values.item.Item.{Item}
+use Rattle.port_model.specs.declared.values.item.SignalId.{SignalId}
+use Rattle.port_model.specs.declared.values.pid.Pid.TheVariants.{Of}
+use Rattle.port_model.specs.declared.values.value.Value.{Value}
 use Rattle.run_evaluation.specs.declared.identity.Identity.{Identity}
 use Rattle.run_record.specs.Event as event
 use Rattle.run_record.specs.Event.{Event}

@@ -15,8 +15,8 @@ use Rattle.laws_whole.proofs.Living.{IsMoment}
 use Rattle.laws_whole.proofs.Occurs.{Occurs, deeds_of-append}
 use Rattle.laws_whole.proofs.Whos.{born, first_within, front_amid, front_before, makes_before}
 use Rattle.port_model.specs.Port.{empty_port}
-use Rattle.port_values.specs.declared.pid.Pid.TheVariants as pid
-use Rattle.port_values.specs.declared.value.Value.{Value}
+use Rattle.port_model.specs.declared.values.pid.Pid.TheVariants as pid
+use Rattle.port_model.specs.declared.values.value.Value.{Value}
 use Rattle.run_evaluation.specs.declared.identity.Identity.{Identity}
 use Rattle.run_record.specs.Event.{Event}
 use Rattle.run_record.specs.Record.{RecordValue}

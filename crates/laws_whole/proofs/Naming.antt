@@ -7,9 +7,9 @@ use Rattle.std.specs.Option.{option_map}
 use Rattle.laws_creates.proofs.Numbers.{Numbered}
 use Rattle.laws_creates.specs.Creates.{identities}
 use Rattle.laws_whole.proofs.Lists.{all_at}
-use Rattle.port_values.specs.declared.item.SignalId.{SignalId}
-use Rattle.port_values.specs.declared.pid.Pid.{Pid}
-use Rattle.port_values.specs.declared.pid.Pid.TheVariants as pid
+use Rattle.port_model.specs.declared.values.item.SignalId.{SignalId}
+use Rattle.port_model.specs.declared.values.pid.Pid.{Pid}
+use Rattle.port_model.specs.declared.values.pid.Pid.TheVariants as pid
 use Rattle.run_evaluation.specs.declared.identity.Identity.{Identity}
 use Rattle.run_record.specs.Event as event
 use Rattle.run_record.specs.Event.{Event}

@@ -17,11 +17,11 @@ use Rattle.laws_whole.proofs.Sending.{AreSent, sent_to-append}
 use Rattle.laws_whole.proofs.Steps.{all_orderly}
 use Rattle.laws_whole.proofs.Whos.{born, front_before}
 use Rattle.port_model.specs.History.{Expire, PortEvent, Put, Reset, Set, Stop, Take}
-use Rattle.port_values.specs.Same.{same_pid}
-use Rattle.port_values.specs.declared.item.Item.{Item}
-use Rattle.port_values.specs.declared.pid.Pid.{Pid}
-use Rattle.port_values.specs.declared.pid.Pid.TheVariants as pid
-use Rattle.port_values.specs.declared.pid.Pid.TheVariants.{Of}
+use Rattle.port_model.specs.Same.{same_pid}
+use Rattle.port_model.specs.declared.values.item.Item.{Item}
+use Rattle.port_model.specs.declared.values.pid.Pid.{Pid}
+use Rattle.port_model.specs.declared.values.pid.Pid.TheVariants as pid
+use Rattle.port_model.specs.declared.values.pid.Pid.TheVariants.{Of}
 use Rattle.run_evaluation.specs.declared.identity.Identity.{Identity}
 use Rattle.run_record.specs.Event as event
 use Rattle.run_record.specs.Event.{Event}

@@ -7,9 +7,9 @@ use Rattle.laws_whole.proofs.Cuts.{AreOrderly, IsOrderly}
 use Rattle.laws_whole.proofs.Hearing.{SendsItsSignal, heard_from, heard_of, heard_of_one, line_effects}
 use Rattle.laws_whole.proofs.Naming.{IsLineByPid}
 use Rattle.laws_whole.proofs.Sending.{all_comes, given_more, not_there_is, sends_to}
-use Rattle.port_values.specs.declared.item.Item.{Item}
-use Rattle.port_values.specs.declared.pid.Pid.TheVariants as pid
-use Rattle.port_values.specs.declared.pid.Pid.TheVariants.{Of}
+use Rattle.port_model.specs.declared.values.item.Item.{Item}
+use Rattle.port_model.specs.declared.values.pid.Pid.TheVariants as pid
+use Rattle.port_model.specs.declared.values.pid.Pid.TheVariants.{Of}
 use Rattle.run_semantics.specs.Effect.{Effect, effects_of}
 use Rattle.sdl_script.specs.declared.script.ScriptLine.{ScriptLine}
 use Rattle.sdl_script.specs.declared.script.ScriptSignal.{ScriptSignal}

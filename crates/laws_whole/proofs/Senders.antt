@@ -4,9 +4,9 @@ use Rattle.std.proofs.lemmas.List.Elements.{All-append, All-head, All-nil, All-t
 use Rattle.std.proofs.lemmas.Option.{none-some, same_Some}
 use Rattle.laws_whole.proofs.Sending.{AreSent, all_come_so, no_put, puts_of-append}
 use Rattle.port_model.specs.History.{Expire, PortEvent, Put, Reset, Set, Stop, Take}
-use Rattle.port_values.specs.declared.item.Item.{Item}
-use Rattle.port_values.specs.declared.pid.Pid.TheVariants.{Of}
-use Rattle.port_values.specs.declared.value.Value.{Value}
+use Rattle.port_model.specs.declared.values.item.Item.{Item}
+use Rattle.port_model.specs.declared.values.pid.Pid.TheVariants.{Of}
+use Rattle.port_model.specs.declared.values.value.Value.{Value}
 use Rattle.run_evaluation.specs.declared.identity.Identity.{Identity}
 use Rattle.run_record.specs.Event as event
 use Rattle.run_record.specs.Event.{Event}

@@ -3,8 +3,8 @@ use Rattle.std.proofs.Common.{◌≡◌, ◌∙◌, ◌+◌, if◌then◌else◌
 use Rattle.std.proofs.lemmas.List.Elements.{All-append, All-cons, All-nil, All-set}
 use Rattle.std.proofs.lemmas.Option.{none-some}
 use Rattle.laws_whole.proofs.Lists.{all_at}
-use Rattle.port_values.specs.declared.pid.Pid.TheVariants as pid
-use Rattle.port_values.specs.declared.value.Value.{Value}
+use Rattle.port_model.specs.declared.values.pid.Pid.TheVariants as pid
+use Rattle.port_model.specs.declared.values.value.Value.{Value}
 use Rattle.run_evaluation.specs.declared.identity.Identity.{Identity}
 use Rattle.run_semantics.specs.Effect.{Arm, Create, Effect, Send, effects_of}
 use Rattle.sdl_interp.specs.Instance.{InstanceValue}

@@ -16,7 +16,7 @@ use Rattle.laws_whole.proofs.Puts.{are_put}
 use Rattle.laws_whole.specs.Whole.{EachMissingIsNamed, IsNamedIn, SerialReportsAreWholeOrCut}
 use Rattle.port_model.specs.History.{IsLegal, PortEvent}
 use Rattle.port_model.specs.Port.{PortState, empty_port}
-use Rattle.port_values.specs.declared.item.Item.{Item}
+use Rattle.port_model.specs.declared.values.item.Item.{Item}
 use Rattle.run_evaluation.specs.declared.identity.Identity.{Identity}
 use Rattle.run_record.specs.Record.{RecordValue}
 use Rattle.run_record.specs.declared.record.Report.{Report}

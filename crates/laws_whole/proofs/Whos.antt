@@ -11,7 +11,7 @@ use Rattle.laws_creates.proofs.Steps.{MakeNext-split}
 use Rattle.laws_creates.specs.Creates.{created_by, created_in, created_in_one, identities}
 use Rattle.laws_whole.proofs.Lists.{all_at, all_flat, at_front, in_one_of}
 use Rattle.laws_whole.proofs.Occurs.{Occurs, all_occur}
-use Rattle.port_values.specs.declared.pid.Pid.TheVariants.{Null, Of}
+use Rattle.port_model.specs.declared.values.pid.Pid.TheVariants.{Null, Of}
 use Rattle.run_evaluation.specs.declared.identity.Identity.{Identity}
 use Rattle.run_record.specs.Event as event
 use Rattle.run_record.specs.Event.{Event}

@@ -3,12 +3,12 @@ use Rattle.std.proofs.Common.{◌≡◌, ℕ, ◌≤◌, true, ◌&&◌, cond, L
 use Rattle.std.specs.Prelude.{filter, nat_le}
 use Rattle.std.proofs.lemmas.Bool.{and_parts}
 use Rattle.std.proofs.lemmas.Bool.Decides.{same_from_decides, Decides-like}
-use Rattle.port_values.specs.declared.timer_key.TimerKey.{TimerKey}
+use Rattle.port_model.specs.declared.values.timer_key.TimerKey.{TimerKey}
 use Rattle.port_model.specs.declared.timer.ActiveTimer.{ActiveTimer}
 use Rattle.port_model.specs.declared.timer.Phase.TheVariants.{Running}
 use Rattle.port_model.specs.declared.got.Got.{Got}
 use Rattle.port_model.specs.declared.got.Got.TheVariants.{Signal, Timer}
-use Rattle.port_values.specs.declared.item.Item.{Item}
+use Rattle.port_model.specs.declared.values.item.Item.{Item}
 use Rattle.port_model.specs.Coherence.{has_key, runs_by, IsCoherent}
 use Rattle.port_model.specs.Timers.{same_key, is_set, is_running, is_signal_of, with_waiting, without_key, without_signal, after_taking}
 use Rattle.port_model.proofs.Keys.{same_key-Decides}

@@ -2,10 +2,10 @@ use Rattle.std.proofs.Common.{◌≡◌, true, refl, sym, ap, ◌∙◌}
 use Rattle.std.specs.Ordering.{is_eq}
 use Rattle.std.specs.Bool.{Decides}
 use Rattle.std.proofs.lemmas.Bool.Decides.{Decides-and, Decides-eqb, Decides-like}
-use Rattle.port_values.specs.declared.timer_key.TimerKey.{TimerKey}
-use Rattle.port_values.specs.Same.{same_values-Decides}
+use Rattle.port_model.specs.declared.values.timer_key.TimerKey.{TimerKey}
+use Rattle.port_model.specs.Same.{same_values-Decides}
 use Rattle.port_model.specs.Timers.{same_key, key_order}
-use Rattle.port_values.specs.contracts.timer_key.TimerKeyOrd.TheImpl.Laws.{matches_eq-law}
+use Rattle.port_model.specs.contracts.values.timer_key.TimerKeyOrd.TheImpl.Laws.{matches_eq-law}
 
 -- keys compare by what they say
 pub same_key-Decides : (a b : TimerKey) → Decides (same_key a b) (a ≡ b)

@@ -1,7 +1,9 @@
+pub mod Alive
 pub mod Backlogs
 pub mod Coherence
 pub mod Histories
 pub mod Keys
+pub mod Leaving
 pub mod Lists
 pub mod Order
 pub mod Ordered

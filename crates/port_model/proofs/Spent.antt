@@ -1,7 +1,7 @@
 -- A set by which no timer runs any more stays so.
 use Rattle.std.proofs.Common.{◌≡◌, ◌∙◌, ◌&&◌, ◌||◌, ◌+◌, ◌≤◌, ap, arith, if◌then◌else◌, leb-true, le-leb, ne_eqb, refl, subst, sym, ⊎_elim, ℕ, nat_eq, nat_le, not, Bool, true, false, List, [], ◌∷◌, ◌++◌}
-use Rattle.port_values.specs.declared.item.Item.{Item}
-use Rattle.port_values.specs.declared.timer_key.TimerKey.{TimerKey}
+use Rattle.port_model.specs.declared.values.item.Item.{Item}
+use Rattle.port_model.specs.declared.values.timer_key.TimerKey.{TimerKey}
 use Rattle.port_model.specs.declared.got.Got.{Got}
 use Rattle.port_model.specs.declared.got.Got.TheVariants.{Signal, Timer}
 use Rattle.port_model.specs.declared.selection.Class.{Class}

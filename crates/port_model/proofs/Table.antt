@@ -19,7 +19,7 @@ use Rattle.std.proofs.lemmas.Bool.Decides.{nat_tests, same_from_decides, Decides
 use Rattle.port_model.specs.declared.deadline.Deadline.{Deadline}
 use Rattle.port_model.specs.declared.timer.ActiveTimer.{ActiveTimer}
 use Rattle.port_model.specs.declared.timer.Phase.TheVariants.{Running}
-use Rattle.port_values.specs.declared.timer_key.TimerKey.{TimerKey}
+use Rattle.port_model.specs.declared.values.timer_key.TimerKey.{TimerKey}
 use Rattle.port_model.specs.declared.timers.Timer.{Timer}
 use Rattle.port_model.specs.Table.{Kept, active_of, armed_of, put_in, in_order, is_of, is_set_by, is_until, runs_until, deadline_at, deadline_order, phase_of, IsTable, TimersValue}
 use Rattle.port_model.specs.Timers.{same_key, key_order, same_phase, due_times, is_active, is_running, is_set, waits, with_armed, with_running, with_waiting, without_key, armed_for, without_armed, is_armed, Armed, IsLeast}

@@ -1,7 +1,7 @@
 -- Legal histories of a port.
 use Rattle.std.specs.Prelude.{◌≡◌, ℕ, ◌+◌, true, List, [], ◌∷◌}
-use Rattle.port_values.specs.declared.item.Item.{Item}
-use Rattle.port_values.specs.declared.timer_key.TimerKey.{TimerKey}
+use Rattle.port_model.specs.declared.values.item.Item.{Item}
+use Rattle.port_model.specs.declared.values.timer_key.TimerKey.{TimerKey}
 use Rattle.port_model.specs.declared.selection.Class.{Class}
 use Rattle.port_model.specs.declared.taken.Taken.{Taken}
 use Rattle.port_model.specs.Port.{PortState, put_into, expire_in, remove_from, set_in, stopped}

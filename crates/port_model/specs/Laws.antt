@@ -1,9 +1,9 @@
 -- What holds of every legal history.
 use Rattle.std.specs.Prelude.{◌≡◌, ◌≢◌, ◌⊎◌, ℕ, Bool, true, false, List, [], ◌∷◌, ◌++◌, Option, Some, None, All, filter, if◌then◌else◌}
 use Rattle.std.specs.List.{filter_map}
-use Rattle.port_values.specs.declared.pid.Pid.{Pid}
-use Rattle.port_values.specs.declared.item.Item.{Item}
-use Rattle.port_values.specs.declared.timer_key.TimerKey.{TimerKey}
+use Rattle.port_model.specs.declared.values.pid.Pid.{Pid}
+use Rattle.port_model.specs.declared.values.item.Item.{Item}
+use Rattle.port_model.specs.declared.values.timer_key.TimerKey.{TimerKey}
 use Rattle.port_model.specs.declared.selection.Class.{Class}
 use Rattle.port_model.specs.declared.selection.Class.TheVariants as class
 use Rattle.port_model.specs.declared.got.Got.{Got}
@@ -12,7 +12,7 @@ use Rattle.port_model.specs.declared.taken.Taken.{Taken}
 use Rattle.port_model.specs.declared.taken.Taken.TheVariants.{Consumed, Discarded}
 use Rattle.port_model.specs.History.{PortEvent, Put, Expire, Take, Set, Reset, Stop, IsLegal}
 use Rattle.port_model.specs.Port.{PortState, is_spent}
-use Rattle.port_values.specs.Same.{same_pid}
+use Rattle.port_model.specs.Same.{same_pid}
 use Rattle.port_model.specs.Selection.{class_of}
 use Rattle.port_model.specs.Take.{name_of, Takes}
 

@@ -8,7 +8,7 @@ use Rattle.port_model.specs.declared.deadline.Deadline.{Deadline}
 use Rattle.port_model.specs.declared.timer.ActiveTimer.{ActiveTimer}
 use Rattle.port_model.specs.declared.timer.Phase.{Phase}
 use Rattle.port_model.specs.declared.timer.Phase.TheVariants.{Running, Waiting}
-use Rattle.port_values.specs.declared.timer_key.TimerKey.{TimerKey}
+use Rattle.port_model.specs.declared.values.timer_key.TimerKey.{TimerKey}
 use Rattle.port_model.specs.declared.timers.Timer.{Timer}
 use Rattle.port_model.specs.Timers.{same_key, Armed}
 

@@ -4,12 +4,12 @@ use Rattle.std.specs.List.{list_any, filter_map}
 use Rattle.std.specs.declared.cmp.Ordering.{Ordering}
 use Rattle.port_model.specs.declared.got.Got.{Got}
 use Rattle.port_model.specs.declared.got.Got.TheVariants.{Signal, Timer}
-use Rattle.port_values.specs.declared.timer_key.TimerKey.{TimerKey}
+use Rattle.port_model.specs.declared.values.timer_key.TimerKey.{TimerKey}
 use Rattle.port_model.specs.declared.timer.ActiveTimer.{ActiveTimer}
 use Rattle.port_model.specs.declared.timer.Phase.{Phase}
 use Rattle.port_model.specs.declared.timer.Phase.TheVariants.{Running, Waiting}
-use Rattle.port_values.specs.contracts.timer_key.TimerKeyPartialEq.TheImpl as keys
-use Rattle.port_values.specs.contracts.timer_key.TimerKeyOrd.TheImpl as key_ordering
+use Rattle.port_model.specs.contracts.values.timer_key.TimerKeyPartialEq.TheImpl as keys
+use Rattle.port_model.specs.contracts.values.timer_key.TimerKeyOrd.TheImpl as key_ordering
 use Rattle.port_model.specs.contracts.timer.PhasePartialEq.TheImpl as phases
 
 -- whether two keys are the same, by name and values, or two phases: what `==` answers

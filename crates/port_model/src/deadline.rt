@@ -1,6 +1,6 @@
 //! The deadlines of timers.
 
-use port_values::{Arm, Ticks};
+use crate::values::{Arm, Ticks};
 
 /// When a timer that runs is due, and by which set. The earlier deadline is the lesser one, and of two at one time that
 /// of the earlier set.

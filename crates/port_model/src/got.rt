@@ -4,7 +4,7 @@ ghost use Rattle.std.specs.Prelude.{◌≡◌};
 ghost use Rattle.port_model.specs.Take.{name_of};
 ghost use Rattle.port_model.specs.Timers.{is_signal_of};
 
-use port_values::{Item, SignalId, TimerKey};
+use crate::values::{Item, SignalId, TimerKey};
 
 /// An entry that waits in a port: a signal, or the signal of a timer that has expired.
 #[derive(PartialEq, Eq, Drop)]

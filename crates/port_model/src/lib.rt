@@ -5,9 +5,11 @@
 #![tactic(auto)]
 
 mod backlog;
+mod course;
 mod deadline;
 mod error;
 mod got;
+pub mod inbox;
 pub mod laws;
 mod passed;
 mod places;
@@ -18,12 +20,16 @@ mod selection;
 mod taken;
 mod timer;
 mod timers;
+mod values;
 mod wanted;
 
+pub use course::{Course, CourseLog, KeptWords, SenderInto};
 pub use error::PortError;
 pub use got::Got;
+pub use inbox::{Alone, Entry, Fuse, Gone, Inbox, Placed, PutCount, SenderNumber};
 pub use plain_port::{PlainPort, PortParts};
 pub use refused::Refused;
 pub use selection::{Class, Selection};
 pub use taken::Taken;
-pub use timers::{Timer, Timers};
+pub use timers::Timer;
+pub use values::{Arm, Item, Pid, SignalId, Ticks, TimerKey, Value, Values};

@@ -4,8 +4,8 @@ ghost use Rattle.port_model.specs.Places.{HaveNames, IsBlank, IsFirstFrom, IsFir
 
 use crate::got::Got;
 use crate::selection::Selection;
+use crate::values::{SignalId, TimerKey};
 use crate::wanted::Wanted;
-use port_values::{SignalId, TimerKey};
 use std::alloc::Global;
 use std::collections::{BTreeMap, BTreeSet};
 use std::marker::Model;

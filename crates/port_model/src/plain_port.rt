@@ -15,7 +15,7 @@ use crate::refused::Refused;
 use crate::selection::{Class, Selection};
 use crate::taken::Taken;
 use crate::timers::Timers;
-use port_values::{Arm, Item, Ticks, TimerKey};
+use crate::values::{Arm, Item, Ticks, TimerKey};
 use std::alloc::{AllocError, Global};
 use std::collections::VecDeque;
 use std::marker::Model;

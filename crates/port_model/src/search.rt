@@ -7,8 +7,8 @@ ghost use Rattle.port_model.specs.Wanted.{IsUnwanted, IsWanted};
 
 use crate::got::Got;
 use crate::selection::Selection;
+use crate::values::TimerKey;
 use crate::wanted::Wanted;
-use port_values::TimerKey;
 use std::collections::VecDeque;
 
 /// Where the first entry stands that is wanted.

@@ -2,7 +2,7 @@
 ghost use Rattle.std.specs.Prelude.{◌≡◌, ◌↔◌, IsTrue, Contains};
 ghost use Rattle.port_model.specs.Selection.{class_of};
 
-use port_values::SignalId;
+use crate::values::SignalId;
 use std::marker::Model;
 
 /// The way in which a state treats a signal or a timer of one name.

@@ -1,6 +1,6 @@
 //! The active timers as callers see them.
 
-use port_values::{Arm, Ticks, TimerKey};
+use crate::values::{Arm, Ticks, TimerKey};
 
 /// A timer between its set and the end of its activity. No value of it is made.
 pub struct ActiveTimer {

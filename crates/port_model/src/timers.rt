@@ -6,7 +6,7 @@ ghost use Rattle.port_model.specs.Timers.{armed_for, due_times, is_active, is_ru
 ghost use Rattle.port_model.specs.declared.deadline.Deadline.{Deadline};
 
 use crate::deadline::Deadline;
-use port_values::{Arm, Ticks, TimerKey};
+use crate::values::{Arm, Ticks, TimerKey};
 use std::alloc::{AllocError, Global};
 use std::collections::{BTreeMap, BTreeSet};
 use std::marker::Model;

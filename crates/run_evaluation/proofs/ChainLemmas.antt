@@ -2,7 +2,7 @@
 use Rattle.std.proofs.Common.{◌≡◌, ◌∙◌, ◌<◌, ◌≤◌, ◌+◌, ◌++◌, ◌||◌, ℕ, Bool, true, false, arith, refl, sym, ap, subst, inl, inr, Err, IfErr, IfOk, Ok, Result, List, [], ◌∷◌, length, get_or, take, drop, map}
 use Rattle.std.proofs.lemmas.Grind.{take_at_read}
 use Rattle.std.proofs.lemmas.List.{map-append, take-append-drop, take_all}
-use Rattle.port_values.specs.declared.value.Value.{Value}
+use Rattle.port_model.specs.declared.values.value.Value.{Value}
 use Rattle.sdl_system.specs.Term.{Operand, Term, binary, chain_step, chained, expression_step, link_step, operand_of, term_of, term_of_chain}
 use Rattle.sdl_system.specs.declared.expression.Chain.{Chain, out-Chain}
 use Rattle.sdl_system.specs.declared.expression.Expression.TheFolds.{fold_out-Chain, fold_out-Link}

@@ -2,10 +2,10 @@
 use Rattle.std.proofs.Common.{◌≡◌, ◌∙◌, true, refl, ap, pos, Option, None, Some, Result, Ok, Err, List, subst}
 use Rattle.std.specs.Option.{IfSome}
 use Rattle.port_model.specs.Port.{PortState}
-use Rattle.port_values.specs.declared.item.SignalId.{SignalId}
-use Rattle.port_values.specs.declared.timer_key.TimerKey.{TimerKey}
-use Rattle.port_values.specs.declared.value.Value.{Value}
-use Rattle.port_values.specs.declared.value.Value.TheVariants as value
+use Rattle.port_model.specs.declared.values.item.SignalId.{SignalId}
+use Rattle.port_model.specs.declared.values.timer_key.TimerKey.{TimerKey}
+use Rattle.port_model.specs.declared.values.value.Value.{Value}
+use Rattle.port_model.specs.declared.values.value.Value.TheVariants as value
 use Rattle.sdl_system.specs.Operation.{applied, applied_to_one, ranged, value_in}
 use Rattle.sdl_system.specs.OperationLaws.{TakesSort}
 use Rattle.sdl_system.specs.Sort.{as_sort, has_sort}

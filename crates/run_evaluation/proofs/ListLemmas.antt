@@ -1,9 +1,9 @@
 -- The values of several expressions, and of a timer.
 use Rattle.std.proofs.Common.{◌≡◌, ◌∙◌, ◌++◌, ℕ, Bool, sym, ap, subst, inl, inr, Result, Ok, Err, Vec, Global, List, drop, map}
-use Rattle.port_values.specs.declared.item.SignalId.{SignalId}
-use Rattle.port_values.specs.declared.timer_key.TimerKey.{TimerKey}
-use Rattle.port_values.specs.declared.value.Value.{Value}
-use Rattle.port_values.specs.declared.value.Value.TheVariants as value
+use Rattle.port_model.specs.declared.values.item.SignalId.{SignalId}
+use Rattle.port_model.specs.declared.values.timer_key.TimerKey.{TimerKey}
+use Rattle.port_model.specs.declared.values.value.Value.{Value}
+use Rattle.port_model.specs.declared.values.value.Value.TheVariants as value
 use Rattle.sdl_system.specs.Term.{Operand, Term, active, chain_step, expression_step, link_step, term_of, terms_of, variable}
 use Rattle.sdl_system.specs.declared.expression.Expression.{Expression}
 use Rattle.sdl_system.specs.declared.expression.Expression.TheFolds.{fold-roll-Expression}

@@ -2,8 +2,8 @@
 use Rattle.std.specs.Prelude.{◌≡◌, Bool, true, false, List, Ok, Err}
 use Rattle.port_model.specs.Port.{PortState}
 use Rattle.port_model.specs.Timers.{is_active}
-use Rattle.port_values.specs.declared.timer_key.TimerKey.{TimerKey}
-use Rattle.port_values.specs.declared.value.Value.{Value}
+use Rattle.port_model.specs.declared.values.timer_key.TimerKey.{TimerKey}
+use Rattle.port_model.specs.declared.values.value.Value.{Value}
 use Rattle.sdl_system.specs.Sort.{has_sort}
 use Rattle.sdl_system.specs.System.{SystemValue}
 use Rattle.sdl_system.specs.Term.{Term, binary}

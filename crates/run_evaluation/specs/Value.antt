@@ -1,10 +1,10 @@
 -- What an expression comes to (Z.104: expressions), by recursion on its tree: a value, or why there is none.
 use Rattle.std.specs.Prelude.{ℕ, pos, Bool, List, [], ◌∷◌, Option, None, Some, Result, Ok, Err}
-use Rattle.port_values.specs.declared.item.SignalId.{SignalId}
-use Rattle.port_values.specs.declared.pid.Pid.{Pid}
-use Rattle.port_values.specs.declared.timer_key.TimerKey.{TimerKey}
-use Rattle.port_values.specs.declared.value.Value.{Value}
-use Rattle.port_values.specs.declared.value.Value.TheVariants as value
+use Rattle.port_model.specs.declared.values.item.SignalId.{SignalId}
+use Rattle.port_model.specs.declared.values.pid.Pid.{Pid}
+use Rattle.port_model.specs.declared.values.timer_key.TimerKey.{TimerKey}
+use Rattle.port_model.specs.declared.values.value.Value.{Value}
+use Rattle.port_model.specs.declared.values.value.Value.TheVariants as value
 use Rattle.sdl_system.specs.Operation.{applied, applied_to_one, ranged, truth_of, value_in}
 use Rattle.sdl_system.specs.Sort.{as_sort}
 use Rattle.sdl_system.specs.Term.{Term, Terms, constant, variable, now, pid, active, unary, binary, no_term, and_term, terms_of}

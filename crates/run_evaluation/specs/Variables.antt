@@ -1,7 +1,7 @@
 -- The variables of an instance (Z.102: variable).
 use Rattle.std.specs.Prelude.{ℤ, List, Option, None, Some, option_and_then, slice_get, unwrap_or}
-use Rattle.port_values.specs.declared.value.Value.{Value}
-use Rattle.port_values.specs.declared.value.Value.TheVariants as value
+use Rattle.port_model.specs.declared.values.value.Value.{Value}
+use Rattle.port_model.specs.declared.values.value.Value.TheVariants as value
 use Rattle.sdl_system.specs.declared.expression.Expression.{Expression}
 use Rattle.sdl_system.specs.declared.expression.Expression.TheVariants as expression
 use Rattle.sdl_system.specs.declared.id.VariableId.{VariableId}

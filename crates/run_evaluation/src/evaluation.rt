@@ -1,7 +1,7 @@
 //! The evaluation of expressions (Z.104: expressions).
 
 ghost use Rattle.std.specs.Prelude.{◌≡◌, Ok, IfErr, IfOk, IfSome, map, true};
-ghost use Rattle.port_values.specs.declared.value.Value.TheVariants.{Int};
+ghost use Rattle.port_model.specs.declared.values.value.Value.TheVariants.{Int};
 ghost use Rattle.sdl_system.specs.Operation.{applied, compared};
 ghost use Rattle.sdl_system.specs.Term.{operand_of, term_of, term_of_chain};
 ghost use Rattle.run_evaluation.specs.Knowledge.{environment_of};
@@ -11,8 +11,7 @@ ghost use Rattle.run_evaluation.specs.Value.{accessed, at_place, given, key_at, 
 
 use crate::knowledge::Knowledge;
 use crate::store::Store;
-use port_inbox::Inbox;
-use port_values::{SignalId, Ticks, TimerKey, Value, Values};
+use port_model::{Inbox, SignalId, Ticks, TimerKey, Value, Values};
 use run_record::Failure;
 use sdl_system::{
     Arithmetic, Chain, Comparison, Expression, Link, NumberSort, Operation, Sort, VariableId,

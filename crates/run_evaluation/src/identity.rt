@@ -1,6 +1,6 @@
 //! Who an instance is.
 
-use port_values::Pid;
+use port_model::Pid;
 use sdl_system::ProcessId;
 
 /// Who an instance is, from its creation to its end.

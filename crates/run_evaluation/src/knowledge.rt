@@ -2,7 +2,7 @@
 
 ghost use Rattle.std.specs.Prelude.{◌≡◌, IfSome, Ok, true};
 ghost use Rattle.port_model.specs.Timers.{is_active};
-ghost use Rattle.port_values.specs.declared.value.Value.TheVariants.{Int};
+ghost use Rattle.port_model.specs.declared.values.value.Value.TheVariants.{Int};
 ghost use Rattle.run_evaluation.specs.Environment.{sorts_of};
 ghost use Rattle.run_evaluation.specs.Knowledge.{environment_of};
 ghost use Rattle.run_evaluation.specs.Value.{pid_in, value_of};
@@ -12,8 +12,7 @@ ghost use Rattle.sdl_system.specs.Term.{term_of};
 use crate::identity::Identity;
 use crate::sorts::sorts_of;
 use crate::store::Store;
-use port_inbox::Inbox;
-use port_values::{Pid, SignalId, TimerKey, Value};
+use port_model::{Inbox, Pid, SignalId, TimerKey, Value};
 use sdl_system::{Expression, PidExpression, Sort, System};
 use std::marker::Model;
 

@@ -3,7 +3,7 @@
 ghost use Rattle.std.specs.Prelude.{◌≡◌};
 ghost use Rattle.run_evaluation.specs.Environment.{sorts_of};
 
-use port_values::SignalId;
+use port_model::SignalId;
 use sdl_system::{Sort, System};
 
 /// The sorts of the values that a signal or a timer takes, in their order. None where the system has no such signal.

@@ -2,7 +2,7 @@
 
 ghost use Rattle.std.specs.Prelude.{◌≡◌, IfSome, Ok};
 ghost use Rattle.port_model.specs.Port.{PortState};
-ghost use Rattle.port_values.specs.declared.value.Value.TheVariants.{Int};
+ghost use Rattle.port_model.specs.declared.values.value.Value.TheVariants.{Int};
 ghost use Rattle.run_evaluation.specs.Environment.{environment, initial_store};
 ghost use Rattle.run_evaluation.specs.Value.{value_of};
 ghost use Rattle.run_evaluation.specs.Variables.{integer_in, known_in};
@@ -11,7 +11,7 @@ ghost use Rattle.sdl_system.specs.System.{SystemValue};
 ghost use Rattle.sdl_system.specs.Term.{term_of};
 
 use crate::variables::{Variables, integer_of};
-use port_values::{Pid, Ticks, Value};
+use port_model::{Pid, Ticks, Value};
 use sdl_system::Expression;
 
 /// The store of an instance: all that it knows, except who it is and what its port has.

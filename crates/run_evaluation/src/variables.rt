@@ -3,7 +3,7 @@
 ghost use Rattle.std.specs.Prelude.{◌≡◌, ◌↔◌, [], IsTrue, Some, length, option_and_then, slice_set};
 ghost use Rattle.run_evaluation.specs.Variables.{integer_of, value_in};
 
-use port_values::Value;
+use port_model::Value;
 use sdl_system::VariableId;
 use std::marker::Model;
 

@@ -2,7 +2,7 @@
 use Rattle.std.proofs.Common.{◌≡◌, ◌∙◌, ◌+◌, ◌++◌, ℕ, zero, suc, false, List, [], ◌∷◌, Some, arith, ap, inl, inr, length, map, refl, replicate, slice_get, subst, sym}
 use Rattle.std.specs.Prelude.{Contains}
 use Rattle.run_order.proofs.Meanings.{all_at}
-use Rattle.port_inbox.specs.declared.entry.Fuse.{Fuse}
+use Rattle.port_model.specs.declared.inbox.entry.Fuse.{Fuse}
 use Rattle.run_order.specs.Kept.{AreKept, IsStill, state_with}
 use Rattle.run_order.specs.OrderState.{beginning, fresh}
 use Rattle.run_order.specs.Roster.{RosterValue, all_entered, with_entered}

@@ -2,7 +2,7 @@
 use Rattle.std.proofs.Common.{◌≡◌, ◌∙◌, ◌+◌, ◌<◌, ◌++◌, ◌==◌, Bool, true, false, cond, if◌then◌else◌, ℕ, zero, suc, List, [], ◌∷◌, Option, None, Some, ap, append-nil, arith, inl, inr, length, map, nat_eq, nat_le, refl, set, slice_get, subst, sym}
 use Rattle.std.proofs.lemmas.List.{length-append, length-map, length-set}
 use Rattle.std.proofs.lemmas.Option.{slice_get_within}
-use Rattle.port_inbox.specs.declared.entry.Fuse.{Fuse}
+use Rattle.port_model.specs.declared.inbox.entry.Fuse.{Fuse}
 use Rattle.run_evaluation.specs.declared.identity.Identity.{Identity}
 use Rattle.run_order.proofs.Chronicles.{tellers_of-push}
 use Rattle.run_order.proofs.Happenings.{set_number}
@@ -14,9 +14,9 @@ use Rattle.run_order.specs.Pending.{all_pending, behind_first, pending_by}
 use Rattle.run_order.specs.declared.member.Member.{Member}
 use Rattle.run_order.specs.declared.pending.Pending.{Pending}
 use Rattle.run_order.specs.declared.pending.Pending.TheVariants as pending
-use Rattle.port_values.specs.declared.item.Item.{Item}
-use Rattle.port_values.specs.declared.pid.Pid.TheVariants as pid
-use Rattle.port_values.specs.declared.value.Value.{Value}
+use Rattle.port_model.specs.declared.values.item.Item.{Item}
+use Rattle.port_model.specs.declared.values.pid.Pid.TheVariants as pid
+use Rattle.port_model.specs.declared.values.value.Value.{Value}
 use Rattle.run_record.specs.Event as event
 use Rattle.run_record.specs.Event.{Event, is_beginning}
 use Rattle.run_semantics.specs.Effect.{Deed, Effect, events_of}

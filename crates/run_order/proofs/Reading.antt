@@ -4,7 +4,7 @@ use Rattle.std.specs.Borrow.{Bor}
 use Rattle.std.specs.Prelude.{◌↔◌, Contains, IfNone, IfSome}
 use Rattle.std.proofs.lemmas.Bool.Decides.{Decides-eqb}
 use Rattle.std.specs.List.{HoldsAt}
-use Rattle.port_inbox.specs.declared.entry.Fuse.{Fuse}
+use Rattle.port_model.specs.declared.inbox.entry.Fuse.{Fuse}
 use Rattle.run_order.proofs.Happenings.{at_number, nobody_at, wrong_way}
 use Rattle.run_order.proofs.Keeping.{same_there}
 use Rattle.run_order.proofs.Meanings.{there_is}

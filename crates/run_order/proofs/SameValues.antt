@@ -3,11 +3,11 @@ use Rattle.std.proofs.Common.{◌≡◌, ◌∙◌, Bool, List, true, false, ap,
 use Rattle.std.specs.Prelude.{◌↔◌}
 use Rattle.port_model.specs.declared.got.Got.{Got}
 use Rattle.port_model.specs.declared.got.Got.TheVariants as came
-use Rattle.port_values.specs.Same.{same_values, same_values-Decides}
-use Rattle.port_values.specs.declared.item.SignalId.{SignalId}
-use Rattle.port_values.specs.declared.pid.Pid.{Pid}
-use Rattle.port_values.specs.declared.pid.Pid.TheVariants as who
-use Rattle.port_values.specs.declared.value.Value.{Value}
+use Rattle.port_model.specs.Same.{same_values, same_values-Decides}
+use Rattle.port_model.specs.declared.values.item.SignalId.{SignalId}
+use Rattle.port_model.specs.declared.values.pid.Pid.{Pid}
+use Rattle.port_model.specs.declared.values.pid.Pid.TheVariants as who
+use Rattle.port_model.specs.declared.values.value.Value.{Value}
 use Rattle.run_order.specs.Comparing.{has_values}
 use Rattle.run_record.specs.Entry.{event_of, got_from}
 use Rattle.run_record.specs.Event as event

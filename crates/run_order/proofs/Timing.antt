@@ -1,7 +1,7 @@
 -- What is due, by the least time of a fuse and the next line's.
 use Rattle.std.proofs.Common.{◌≡◌, ◌∙◌, ◌+◌, ◌<◌, ◌≤◌, Bool, true, false, ℕ, List, [], ◌∷◌, Option, None, Some, MatchOption, ap, arith, map, refl, slice_get, subst, sym}
 use Rattle.std.proofs.lemmas.List.Elements.{All-contains, All-map, All-nil}
-use Rattle.port_inbox.specs.declared.entry.Fuse.{Fuse}
+use Rattle.port_model.specs.declared.inbox.entry.Fuse.{Fuse}
 use Rattle.port_model.specs.Timers.{IsLeast}
 use Rattle.run_order.specs.Interleaving.{IsNothingDue}
 use Rattle.run_order.specs.OrderState.{OrderState}

@@ -1,6 +1,6 @@
 -- An instance that waits stays as it is.
 use Rattle.std.proofs.Common.{◌≡◌, ◌∙◌, ◌++◌, List, [], ◌∷◌, ap, refl, subst, sym}
-use Rattle.port_inbox.specs.Ends.{OwnerState, single}
+use Rattle.port_model.specs.Ends.{OwnerState, single}
 use Rattle.port_model.specs.History.{Expire, PortEvent, Put, Take}
 use Rattle.port_model.specs.Laws.{IsFromOutside}
 use Rattle.port_model.specs.Port.{PortState}

@@ -1,9 +1,9 @@
 -- Acts with their effects, one after the other.
 use Rattle.std.proofs.Common.{◌≡◌, ◌∙◌, ◌+◌, ◌++◌, ℕ, Bool, true, false, List, [], ◌∷◌, Option, None, Some, MatchOption, ap, append_assoc, drop, map, refl, subst, sym}
 use Rattle.std.proofs.lemmas.List.{drop-drop}
-use Rattle.port_inbox.specs.declared.entry.Fuse.{Fuse}
-use Rattle.port_values.specs.declared.item.Item.{Item}
-use Rattle.port_values.specs.declared.value.Value.{Value}
+use Rattle.port_model.specs.declared.inbox.entry.Fuse.{Fuse}
+use Rattle.port_model.specs.declared.values.item.Item.{Item}
+use Rattle.port_model.specs.declared.values.value.Value.{Value}
 use Rattle.run_order.specs.Pending.{all_pending, behind_first, pending_by}
 use Rattle.run_order.specs.Woven.{IsNextPending, IsOwn, act_of, acts_of, fits, is_inside, woven}
 use Rattle.run_order.specs.declared.act.Act.{Act}

@@ -1,9 +1,9 @@
 -- A run of agents in one order: one list of all that happens, one after the other (Z.101: agent, system; Z.102: start,
 -- input, output, timer, create).
 use Rattle.std.specs.Prelude.{◌≡◌, ◌≢◌, ◌+◌, ◌<◌, ◌≤◌, ℕ, Bool, false, true, List, [], ◌∷◌, ◌++◌, All, Option, None, Some, if◌then◌else◌, map}
-use Rattle.port_inbox.specs.declared.entry.Fuse.{Fuse}
+use Rattle.port_model.specs.declared.inbox.entry.Fuse.{Fuse}
 use Rattle.port_model.specs.Timers.{IsLeast, earlier}
-use Rattle.port_values.specs.declared.item.Item.{Item}
+use Rattle.port_model.specs.declared.values.item.Item.{Item}
 use Rattle.run_evaluation.specs.declared.identity.Identity.{Identity}
 use Rattle.run_order.specs.declared.member.Member.{Member}
 use Rattle.run_order.specs.OrderState.{OrderState, after_pending, expired, heard, living_of, member_at, with_member, world_at}

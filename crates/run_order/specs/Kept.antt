@@ -1,6 +1,6 @@
 -- What a replay keeps, and how far each of its calls goes.
 use Rattle.std.specs.Prelude.{◌≡◌, ◌≢◌, ◌⊎◌, ◌+◌, ◌<◌, ◌≤◌, ℕ, Bool, true, false, List, [], ◌∷◌, All, Contains, None, Option, Some, drop, map, slice_get}
-use Rattle.port_inbox.specs.declared.entry.Fuse.{Fuse}
+use Rattle.port_model.specs.declared.inbox.entry.Fuse.{Fuse}
 use Rattle.port_model.specs.Timers.{IsLeast, earlier}
 use Rattle.run_order.specs.Interleaving.{Follows, Happening, IsDoneAndRests, IsNothingDue, Looks, MayTell, Part, Tells, Transition, Within, part_of, teller_of}
 use Rattle.run_order.specs.OrderState.{OrderState, living_of, member_at}

@@ -1,9 +1,9 @@
 -- The whole of a run between two happenings (Z.101: system, agent), for any number of instances.
 use Rattle.std.specs.Prelude.{◌+◌, ℕ, zero, suc, nat_le, false, List, [], ◌∷◌, ◌++◌, Option, None, Some, if◌then◌else◌, length, map, replicate, slice_get, slice_set}
-use Rattle.port_inbox.specs.declared.entry.Fuse.{Fuse}
-use Rattle.port_values.specs.declared.item.Item.{Item}
-use Rattle.port_values.specs.declared.pid.Pid.TheVariants.{Of}
-use Rattle.port_values.specs.declared.value.Value.{Value}
+use Rattle.port_model.specs.declared.inbox.entry.Fuse.{Fuse}
+use Rattle.port_model.specs.declared.values.item.Item.{Item}
+use Rattle.port_model.specs.declared.values.pid.Pid.TheVariants.{Of}
+use Rattle.port_model.specs.declared.values.value.Value.{Value}
 use Rattle.run_evaluation.specs.declared.identity.Identity.{Identity}
 use Rattle.run_order.specs.Roster.{RosterValue, all_entered, living_in_all, with_entered, with_left}
 use Rattle.run_order.specs.declared.member.Member.{Member}

@@ -1,7 +1,7 @@
 //! What the events of a record are to those outside of its instance.
 
 ghost use Rattle.std.specs.Prelude.{◌≡◌};
-ghost use Rattle.port_values.specs.Value.{ValueList};
+ghost use Rattle.port_model.specs.Value.{ValueList};
 ghost use Rattle.run_order.specs.Woven.{act_of};
 ghost use Rattle.run_record.specs.Entry.{event_of};
 

@@ -19,7 +19,7 @@ use crate::comparing::say_same;
 use crate::hearing::Heard;
 use crate::member::Move;
 use crate::replay::Replay;
-use port_values::Ticks;
+use port_model::Ticks;
 use run_record::{Record, Report};
 use sdl_script::{Script, ScriptLine};
 use sdl_system::System;

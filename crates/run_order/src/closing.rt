@@ -12,7 +12,7 @@ ghost use Rattle.sdl_system.specs.Behaviour.{Behaviour};
 ghost use Rattle.serial_order.specs.Report.{Closes};
 
 use crate::replay::Replay;
-use port_values::Ticks;
+use port_model::Ticks;
 use run_record::Record;
 use std::alloc::{AllocError, Global};
 

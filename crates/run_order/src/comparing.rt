@@ -6,7 +6,7 @@ ghost use Rattle.run_record.specs.Event.{Event};
 ghost use Rattle.run_record.specs.Told.{event_told};
 
 use crate::entries::same_entry;
-use port_values::Value;
+use port_model::Value;
 use run_record::{Entry, Reader, Record, Told};
 
 /// Whether two records are of the same instance, and have the same events.

@@ -2,7 +2,7 @@
 
 ghost use Rattle.std.specs.Prelude.{◌≡◌, ◌↔◌, IsTrue};
 
-use port_values::{SignalId, Value};
+use port_model::{SignalId, Value};
 use run_record::{Entry, Failure, Origin, Stimulus};
 use sdl_system::{Dest, ProcessId, StateId, Target, VariableId};
 

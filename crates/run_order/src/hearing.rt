@@ -7,7 +7,7 @@ ghost use Rattle.run_order.specs.Noted.{IsNoTick};
 ghost use Rattle.serial_order.specs.Execution.{IsNoFuseBefore, IsNoLineBefore};
 
 use crate::replay::Replay;
-use port_values::{Item, Ticks};
+use port_model::{Item, Ticks};
 use sdl_script::ScriptLine;
 use sdl_system::{Source, Target};
 use std::alloc::AllocError;

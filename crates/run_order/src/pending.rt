@@ -5,8 +5,7 @@ ghost use Rattle.run_order.specs.Woven.{IsNextPending, IsOwn, is_inside};
 ghost use Rattle.serial_run.specs.StepWorld.{effect_of};
 
 use crate::act::Act;
-use port_inbox::Fuse;
-use port_values::{Item, Values};
+use port_model::{Fuse, Item, Values};
 use sdl_system::{Dest, ProcessId, Target};
 use serial_run::{Effect, Effects};
 

@@ -10,7 +10,7 @@ ghost use Rattle.run_semantics.specs.World.{count_in, is_reached, most_instances
 use crate::member::Member;
 use crate::pending::Pending;
 use crate::roster::Roster;
-use port_values::Ticks;
+use port_model::Ticks;
 use sdl_script::{Script, ScriptLine};
 use sdl_system::{ProcessId, System};
 use serial_run::{Effects, Instances};

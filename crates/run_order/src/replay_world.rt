@@ -3,8 +3,7 @@
 ghost use Rattle.std.specs.Prelude.{◌≡◌};
 
 use crate::answers::Answers;
-use port_inbox::Fuse;
-use port_values::{Item, SignalId, Ticks, Values};
+use port_model::{Fuse, Item, SignalId, Ticks, Values};
 use run_semantics::World;
 use sdl_system::{Dest, ProcessId, Source, System, Target};
 use serial_run::{Effect, Effects};

@@ -1,7 +1,7 @@
 -- Reading entries, from the first on or the last one alone.
 use Rattle.std.proofs.Common.{◌≡◌, ℕ, ◌+◌, ◌-◌, ◌≤◌, true, List, [], ◌∷◌, ◌++◌, Option, Some, None, length, take, drop, sym, ◌∙◌, ap, arith, append-nil, take-append-drop}
 use Rattle.std.proofs.lemmas.List.{length-drop, length-take, take_all}
-use Rattle.port_values.specs.declared.value.Value.{Value}
+use Rattle.port_model.specs.declared.values.value.Value.{Value}
 use Rattle.run_record.specs.Entry.{event_of}
 use Rattle.run_record.specs.Packed.{count_of, counted, ends_in_event, entry_at, is_event, time_after, time_in, told, told_at, told_by}
 use Rattle.run_record.specs.declared.entry.Entry.{Entry}

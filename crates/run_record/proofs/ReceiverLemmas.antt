@@ -3,9 +3,9 @@ use Rattle.std.proofs.Common.{◌≡◌, ℕ, ◌+◌, ◌-◌, ◌<◌, ◌≤�
 use Rattle.std.specs.Int.{from_bool}
 use Rattle.std.proofs.lemmas.Bool.{cases_lt}
 use Rattle.std.proofs.lemmas.List.{drop_all, drop_at, length-drop, length-take, nil_from_length, take_at}
-use Rattle.port_values.specs.declared.item.SignalId.{SignalId}
-use Rattle.port_values.specs.declared.value.Value.{Value}
-use Rattle.port_values.specs.declared.pid.Pid.TheVariants as who
+use Rattle.port_model.specs.declared.values.item.SignalId.{SignalId}
+use Rattle.port_model.specs.declared.values.value.Value.{Value}
+use Rattle.port_model.specs.declared.values.pid.Pid.TheVariants as who
 use Rattle.sdl_system.specs.declared.route.Dest.{Dest}
 use Rattle.sdl_system.specs.declared.route.Dest.TheVariants as to
 use Rattle.sdl_system.specs.declared.route.Target as reached

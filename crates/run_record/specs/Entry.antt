@@ -2,10 +2,10 @@
 use Rattle.std.specs.Prelude.{ℕ, List}
 use Rattle.port_model.specs.declared.got.Got as got
 use Rattle.port_model.specs.declared.got.Got.TheVariants as came
-use Rattle.port_values.specs.declared.item.SignalId.{SignalId}
-use Rattle.port_values.specs.declared.pid.Pid as pid
-use Rattle.port_values.specs.declared.pid.Pid.TheVariants as who
-use Rattle.port_values.specs.declared.value.Value.{Value}
+use Rattle.port_model.specs.declared.values.item.SignalId.{SignalId}
+use Rattle.port_model.specs.declared.values.pid.Pid as pid
+use Rattle.port_model.specs.declared.values.pid.Pid.TheVariants as who
+use Rattle.port_model.specs.declared.values.value.Value.{Value}
 use Rattle.run_record.specs.Event as event
 use Rattle.run_record.specs.declared.entry.Entry as entry
 use Rattle.run_record.specs.declared.entry.Entry.TheVariants as kept

@@ -1,8 +1,8 @@
 -- How a record keeps its events: in entries, and the values of all of them in a table.
 use Rattle.std.specs.Prelude.{◌≡◌, ℕ, Bool, true, false, ◌==◌, ◌+◌, ◌*◌, ◌-◌, ◌≤◌, List, [], ◌∷◌, ◌++◌, length, take, drop, None, Option, Some, option_to_list, if◌then◌else◌}
-use Rattle.port_values.specs.declared.pid.Pid.TheVariants as who
-use Rattle.port_values.specs.declared.value.Value as value
-use Rattle.port_values.specs.declared.value.Value.TheVariants as sort
+use Rattle.port_model.specs.declared.values.pid.Pid.TheVariants as who
+use Rattle.port_model.specs.declared.values.value.Value as value
+use Rattle.port_model.specs.declared.values.value.Value.TheVariants as sort
 use Rattle.sdl_system.specs.declared.route.Dest.TheVariants as to
 use Rattle.sdl_system.specs.declared.route.Target as reached
 use Rattle.sdl_system.specs.declared.route.Target.TheVariants as target

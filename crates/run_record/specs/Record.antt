@@ -1,6 +1,6 @@
 -- What an instance did, as callers see it.
 use Rattle.std.specs.Prelude.{ℕ, ◌-◌, List, [], ◌∷◌, ◌++◌, length}
-use Rattle.port_values.specs.declared.pid.Pid.{Pid}
+use Rattle.port_model.specs.declared.values.pid.Pid.{Pid}
 use Rattle.sdl_system.specs.declared.id.ProcessId.{ProcessId}
 use Rattle.run_record.specs.Event.{Event, values_of}
 

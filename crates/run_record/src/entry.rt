@@ -1,14 +1,13 @@
 //! Events as a reader of a record tells them: their values stand beside them.
 
 ghost use Rattle.std.specs.Prelude.{◌≡◌};
-ghost use Rattle.port_values.specs.Value.{ValueList};
+ghost use Rattle.port_model.specs.Value.{ValueList};
 ghost use Rattle.run_record.specs.Event.{values_got};
 ghost use Rattle.run_record.specs.Entry.{got_from, got_of, sender_of, signal_got};
-ghost use Rattle.port_values.specs.declared.item.SignalId.{SignalId};
+ghost use Rattle.port_model.specs.declared.values.item.SignalId.{SignalId};
 
 use crate::failure::Failure;
-use port_model::Got;
-use port_values::{Pid, SignalId, Value};
+use port_model::{Got, Pid, SignalId, Value};
 use sdl_system::{Dest, ProcessId, StateId, Target, VariableId};
 
 /// An event without its values. `at` and `due` are in ticks.

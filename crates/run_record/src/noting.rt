@@ -9,8 +9,7 @@ use crate::entry::values_got;
 use crate::failure::Failure;
 use crate::packed::Packed;
 use crate::record::Record;
-use port_model::Got;
-use port_values::{SignalId, Ticks, TimerKey, Value};
+use port_model::{Got, SignalId, Ticks, TimerKey, Value};
 use sdl_system::{Dest, ProcessId, StateId, Target, VariableId};
 
 impl Record {

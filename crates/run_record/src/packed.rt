@@ -7,7 +7,7 @@ ghost use Rattle.run_record.specs.declared.entry.Entry.TheVariants as kept;
 use crate::entry::{Entry, Stimulus};
 use crate::failure::Failure;
 use crate::parts::{OriginKind, TargetKind};
-use port_values::{Pid, SignalId, Value};
+use port_model::{Pid, SignalId, Value};
 use sdl_system::{Dest, ProcessId, StateId, VariableId};
 
 /// An event without its values and its time; or the time, in ticks, of the events from there on. `count` is how many

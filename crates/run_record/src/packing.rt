@@ -1,7 +1,7 @@
 //! Packing an event into an entry.
 
 ghost use Rattle.std.specs.Prelude.{◌≡◌, ◌∷◌, [], ℕ, IsTrue};
-ghost use Rattle.port_values.specs.Value.{ValueList};
+ghost use Rattle.port_model.specs.Value.{ValueList};
 ghost use Rattle.run_record.specs.Entry.{got_from};
 ghost use Rattle.run_record.specs.Event as event;
 ghost use Rattle.run_record.specs.Event.{values_got};
@@ -11,8 +11,7 @@ ghost use Rattle.sdl_system.specs.declared.route.Dest.TheVariants as to;
 use crate::entry::Stimulus;
 use crate::packed::Packed;
 use crate::parts::{OriginKind, TargetKind};
-use port_model::Got;
-use port_values::{Pid, SignalId, Value};
+use port_model::{Got, Pid, SignalId, Value};
 use sdl_system::{Dest, Target, VariableId};
 
 impl Packed {

@@ -5,7 +5,7 @@ ghost use Rattle.run_record.specs.Packed.{counted, told};
 
 use crate::entry::Entry;
 use crate::packed::Packed;
-use port_values::Value;
+use port_model::Value;
 use std::marker::Model;
 
 /// An event of a record: an entry, and its values.

@@ -11,7 +11,7 @@ use crate::growing::grow;
 use crate::packed::Packed;
 use crate::reader::{Reader, Told};
 use crate::receivers::{Receivers, last_entries, values_of_one_time};
-use port_values::{Pid, Ticks, Value};
+use port_model::{Pid, Ticks, Value};
 use sdl_system::ProcessId;
 use std::alloc::{AllocError, Global};
 use std::fmt;

@@ -1,10 +1,10 @@
 -- What an owner knows to be put, and what of it is drawn.
 use Rattle.std.proofs.Common.{◌≡◌, ◌∙◌, sym, ap, refl, Bool, true, List, [], ◌∷◌, ◌++◌, append_assoc, append-nil, arith, if◌then◌else◌, length, nat_lt}
 use Rattle.std.proofs.lemmas.List.{length-append}
-use Rattle.port_inbox.specs.Calls.{IsDrawn, TakesHere, after_draws, known_after}
-use Rattle.port_inbox.specs.Ends.{OwnerState}
-use Rattle.port_inbox.specs.Put.{longer}
-use Rattle.port_inbox.specs.declared.placed.Placed.{Placed}
+use Rattle.port_model.specs.Calls.{IsDrawn, TakesHere, after_draws, known_after}
+use Rattle.port_model.specs.Ends.{OwnerState}
+use Rattle.port_model.specs.Put.{longer}
+use Rattle.port_model.specs.declared.inbox.placed.Placed.{Placed}
 use Rattle.port_model.specs.History.{PortEvent, Take}
 use Rattle.port_model.specs.declared.selection.Class.{Class}
 use Rattle.port_model.specs.declared.taken.Taken.{Taken}

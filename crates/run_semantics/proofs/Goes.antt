@@ -1,10 +1,10 @@
 -- How pieces of work join, and what one deed brings.
 use Rattle.std.proofs.Common.{◌≡◌, inl, inr, ◌∙◌, sym, ap, subst, refl, ℕ, Bool, true, List, [], ◌∷◌, ◌++◌, All, append_assoc, append-nil}
 use Rattle.std.proofs.lemmas.List.Elements.{All-append, All-cons, All-nil}
-use Rattle.port_inbox.proofs.Alive.{after_draws-alive}
-use Rattle.port_inbox.specs.Calls.{IsDrawn, TakesHere, after_draws, after_stop}
-use Rattle.port_inbox.specs.Ends.{OwnerState}
-use Rattle.port_inbox.specs.declared.placed.Placed.{Placed}
+use Rattle.port_model.proofs.Alive.{after_draws-alive}
+use Rattle.port_model.specs.Calls.{IsDrawn, TakesHere, after_draws, after_stop}
+use Rattle.port_model.specs.Ends.{OwnerState}
+use Rattle.port_model.specs.declared.inbox.placed.Placed.{Placed}
 use Rattle.port_model.specs.History.{IsLegal, PortEvent, Stop, Take}
 use Rattle.port_model.specs.Port.{PortState, stopped}
 use Rattle.port_model.specs.Take.{Takes}

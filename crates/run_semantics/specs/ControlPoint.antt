@@ -1,6 +1,6 @@
 -- Where an instance is in its behaviour (Z.101: agent; Z.102: state, transition).
 use Rattle.std.specs.Prelude.{◌<◌, List, Option, length}
-use Rattle.port_values.specs.declared.value.Value.{Value}
+use Rattle.port_model.specs.declared.values.value.Value.{Value}
 use Rattle.sdl_system.specs.Behaviour.{Behaviour}
 use Rattle.sdl_system.specs.Body.{Action, Body}
 use Rattle.sdl_system.specs.System.{SystemValue}

@@ -1,11 +1,11 @@
 -- How far a piece of work brings an instance.
 use Rattle.std.specs.Prelude.{◌≡◌, ◌==◌, ℕ, Bool, List, [], ◌∷◌, ◌++◌, All, Contains, if◌then◌else◌}
 use Rattle.std.specs.List.{flat_map}
-use Rattle.port_inbox.specs.Calls.{IsNoPriority}
-use Rattle.port_inbox.specs.Ends.{OwnerState}
-use Rattle.port_inbox.specs.declared.entry.Entry.{Entry}
-use Rattle.port_inbox.specs.declared.entry.Entry.TheVariants.{Signal, Timer}
-use Rattle.port_inbox.specs.declared.placed.Placed.{Placed}
+use Rattle.port_model.specs.Calls.{IsNoPriority}
+use Rattle.port_model.specs.Ends.{OwnerState}
+use Rattle.port_model.specs.declared.inbox.entry.Entry.{Entry}
+use Rattle.port_model.specs.declared.inbox.entry.Entry.TheVariants.{Signal, Timer}
+use Rattle.port_model.specs.declared.inbox.placed.Placed.{Placed}
 use Rattle.port_model.specs.History.{Expire, PortEvent, Put, Take}
 use Rattle.port_model.specs.declared.selection.Class.{Class}
 use Rattle.port_model.specs.declared.selection.Class.TheVariants as class

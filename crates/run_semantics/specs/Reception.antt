@@ -3,9 +3,9 @@ use Rattle.std.specs.Prelude.{◌≡◌, ℕ, List, Option, Some, slice_get, sli
 use Rattle.std.specs.Option.{option_map}
 use Rattle.port_model.specs.declared.got.Got.{Got}
 use Rattle.port_model.specs.declared.got.Got.TheVariants.{Signal, Timer}
-use Rattle.port_values.specs.declared.pid.Pid.{Pid}
-use Rattle.port_values.specs.declared.pid.Pid.TheVariants.{Of}
-use Rattle.port_values.specs.declared.value.Value.{Value}
+use Rattle.port_model.specs.declared.values.pid.Pid.{Pid}
+use Rattle.port_model.specs.declared.values.pid.Pid.TheVariants.{Of}
+use Rattle.port_model.specs.declared.values.value.Value.{Value}
 use Rattle.run_evaluation.specs.declared.identity.Identity.{Identity}
 use Rattle.run_evaluation.specs.declared.store.Store.{Store}
 use Rattle.sdl_system.specs.Behaviour.{Behaviour, Response, VariableMeaning, input, priority_input}

@@ -1,8 +1,8 @@
 -- Laws of runs.
 use Rattle.std.specs.Prelude.{◌≡◌, ℕ, true, List, [], ◌++◌, Some}
-use Rattle.port_inbox.specs.Calls.{after_draws}
-use Rattle.port_inbox.specs.declared.placed.Placed.{Placed}
-use Rattle.port_inbox.specs.Ends.{OwnerState}
+use Rattle.port_model.specs.Calls.{after_draws}
+use Rattle.port_model.specs.declared.inbox.placed.Placed.{Placed}
+use Rattle.port_model.specs.Ends.{OwnerState}
 use Rattle.port_model.specs.History.{IsLegal, PortEvent}
 use Rattle.port_model.specs.Port.{PortState, empty_port}
 use Rattle.port_model.specs.declared.selection.Class.{Class}

@@ -1,8 +1,8 @@
 -- What lies outside of an instance, as it makes its steps: the clock, who lives, and what it did to it.
 use Rattle.std.specs.Prelude.{◌≡◌, ◌==◌, ◌+◌, ◌&&◌, ◌||◌, max, nat_le, ℕ, Bool, true, false, List, [], ◌∷◌, ◌++◌, Option, None, Some, IfSome, if◌then◌else◌, slice_get, slice_set, unwrap_or}
 use Rattle.std.specs.Option.{option_map, option_map_or}
-use Rattle.port_values.specs.declared.item.Item.{Item}
-use Rattle.port_values.specs.declared.item.SignalId.{SignalId}
+use Rattle.port_model.specs.declared.values.item.Item.{Item}
+use Rattle.port_model.specs.declared.values.item.SignalId.{SignalId}
 use Rattle.run_evaluation.specs.declared.identity.Identity.{Identity}
 use Rattle.run_record.specs.Event.{Event}
 use Rattle.run_record.specs.Event as event

@@ -2,8 +2,7 @@
 
 ghost use Rattle.std.specs.Prelude.{◌≡◌, true, Bool, IfOk, OnOk, OnErr};
 
-use port_inbox::Fuse;
-use port_values::{Item, SignalId, Ticks, Values};
+use port_model::{Fuse, Item, SignalId, Ticks, Values};
 use sdl_system::{Dest, ProcessId, System, Target};
 use std::alloc::AllocError;
 

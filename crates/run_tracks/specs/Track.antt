@@ -1,7 +1,7 @@
 -- How far a record is told.
 use Rattle.std.specs.Prelude.{◌≡◌, ◌==◌, ℕ, nat_le, Bool, true, false, List, [], ◌∷◌, None, Option, Some, if◌then◌else◌, slice_index}
-use Rattle.port_values.specs.declared.value.Value.{Value}
-use Rattle.run_course.specs.declared.course.SenderInto.{SenderInto}
+use Rattle.port_model.specs.declared.values.value.Value.{Value}
+use Rattle.port_model.specs.declared.course.course.SenderInto.{SenderInto}
 use Rattle.run_record.specs.Entry.{event_of}
 use Rattle.run_record.specs.Event.{Event}
 use Rattle.run_record.specs.declared.entry.Entry.{Entry}

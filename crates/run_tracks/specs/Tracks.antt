@@ -1,7 +1,7 @@
 -- All records and ports of a run.
 use Rattle.std.specs.Prelude.{◌≡◌, ◌==◌, ◌-◌, ◌<◌, ◌^◌, ℕ, zero, suc, nat_lt, Bool, true, false, ◌&&◌, not, List, None, Option, Some, drop, if◌then◌else◌, slice_get, slice_index, slice_set}
-use Rattle.port_values.specs.declared.pid.Pid.{Pid}
-use Rattle.port_values.specs.declared.pid.Pid.TheVariants.{Null}
+use Rattle.port_model.specs.declared.values.pid.Pid.{Pid}
+use Rattle.port_model.specs.declared.values.pid.Pid.TheVariants.{Null}
 use Rattle.run_record.specs.Record.{RecordValue}
 use Rattle.run_tracks.specs.ByNumber.{lowered}
 use Rattle.run_tracks.specs.PortTrack.{PortState, after_step, is_look, is_released, next_look, without_loss}

@@ -1,8 +1,8 @@
 -- What is kept of one instance.
 use Rattle.std.specs.Prelude.{◌≡◌, ◌⊎◌, ◌+◌, ◌≤◌, ◌^◌, ℕ, List, Some, length, map, slice_get}
 use Rattle.std.specs.Global.{Vec}
-use Rattle.run_course.specs.declared.course.Course.{Course}
-use Rattle.run_course.specs.declared.course.SenderInto.{SenderInto}
+use Rattle.port_model.specs.declared.course.course.Course.{Course}
+use Rattle.port_model.specs.declared.course.course.SenderInto.{SenderInto}
 use Rattle.run_tracks.specs.declared.words.Words.{Words}
 
 -- They stand in the rows of this place; the row of the environment comes before those of the senders.

@@ -1,7 +1,7 @@
 //! The looks of an owner at its port that found no more in it.
 
 ghost use Rattle.std.specs.Prelude.{◌≡◌, ◌++◌, IfOk, None, OnOk, option_copied};
-ghost use Rattle.port_values.specs.Value.{ValueList};
+ghost use Rattle.port_model.specs.Value.{ValueList};
 ghost use Rattle.run_record.specs.Entry.{event_of};
 ghost use Rattle.run_tracks.specs.Looks.{found_by, found_in, found_where_failed, found_where_taken, look_by, looks_in, state_after, table_in};
 

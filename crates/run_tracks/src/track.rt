@@ -6,8 +6,7 @@ ghost use Rattle.run_tracks.specs.Track.{AreLeft, IsTold, is_closing, number_in,
 
 use crate::by_number::{lower, put_at, raise, value_at};
 use crate::words::Words;
-use port_values::Ticks;
-use run_course::SenderInto;
+use port_model::{SenderInto, Ticks};
 use run_record::{Entry, Reader, Record};
 use std::alloc::{AllocError, Global};
 use std::marker::Model;

@@ -3,7 +3,7 @@
 ghost use Rattle.std.specs.Prelude.{◌≡◌, IfNone, IfSome};
 ghost use Rattle.run_tracks.specs.Words.{AreWordsOf, IsWithout};
 
-use run_course::{Course, SenderInto};
+use port_model::{Course, SenderInto};
 
 /// What is kept of one instance of a run.
 #[derive(Clone, Copy)]

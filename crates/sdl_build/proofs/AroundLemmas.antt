@@ -1,6 +1,6 @@
 -- What stands around a process, as the code keeps it.
 use Rattle.std.proofs.Common.{◌≡◌, ◌∙◌, ℕ, ℤ, Bool, List, Option, ap}
-use Rattle.port_values.specs.declared.item.SignalId.{SignalId}
+use Rattle.port_model.specs.declared.values.item.SignalId.{SignalId}
 use Rattle.sdl_build.specs.ProcessScope.{process_scope_with}
 use Rattle.sdl_build.specs.Context.{Context}
 use Rattle.build_process.specs.ProcessScope.{ProcessScope}

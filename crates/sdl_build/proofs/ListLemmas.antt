@@ -4,7 +4,7 @@ use Rattle.std.proofs.lemmas.Bool.{eqb-true, eqb-false}
 use Rattle.std.proofs.lemmas.List.{length-append}
 use Rattle.std.proofs.lemmas.List.Elements.{Contains-append_left, Contains-push, Contains-push_cases}
 use Rattle.std.specs.Global.{Vec}
-use Rattle.port_values.specs.declared.item.SignalId.{SignalId}
+use Rattle.port_model.specs.declared.values.item.SignalId.{SignalId}
 use Rattle.build_states.specs.Context.{items_of, listed_members}
 use Rattle.sdl_build.specs.Lists.{AreMembers, AreSignalsOf}
 use Rattle.build_routes.specs.declared.network.joined.Network.{Network}

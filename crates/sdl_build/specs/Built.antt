@@ -1,6 +1,6 @@
 -- When a system is what a specification says.
 use Rattle.std.specs.Prelude.{◌≡◌, ℕ, ◌+◌, ◌++◌, List, [], ◌∷◌, Option, None, Some, length, map, slice_get}
-use Rattle.port_values.specs.declared.item.SignalId.{SignalId}
+use Rattle.port_model.specs.declared.values.item.SignalId.{SignalId}
 use Rattle.sdl_build.specs.Faulty.{NotesRest, definition_faults}
 use Rattle.sdl_build.specs.Signals.{signal_of, signals_from}
 use Rattle.sdl_build.specs.Processes.{IsProcess}

@@ -1,7 +1,7 @@
 -- What the definitions of a specification come to: what it defines, what its names stand for, the constants of its
 -- synonyms, and what joins its agents.
 use Rattle.std.specs.Prelude.{◌≡◌, List, length, map}
-use Rattle.port_values.specs.declared.item.SignalId.{SignalId}
+use Rattle.port_model.specs.declared.values.item.SignalId.{SignalId}
 use Rattle.sdl_build.specs.Lists.{AreMembers}
 use Rattle.build_definitions.specs.Parts.{parts_in}
 use Rattle.build_definitions.specs.Definitions.{Rows, rows_in}

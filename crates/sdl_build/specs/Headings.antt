@@ -1,8 +1,8 @@
 -- What the heading of a process says, and its variables (Z.101: process, variable).
 use Rattle.std.specs.Prelude.{◌≡◌, ◌<◌, ◌↔◌, ◌++◌, ℕ, ℤ, Bool, true, SomeIff, unsigned_abs, List, [], ◌∷◌, Option, None, Some, length, map, slice_get, string_bytes, if◌then◌else◌}
 use Rattle.std.specs.Int.{FitsUnsignedBits}
-use Rattle.port_values.specs.declared.item.SignalId.{SignalId}
-use Rattle.port_values.specs.declared.value.Value.{Value}
+use Rattle.port_model.specs.declared.values.item.SignalId.{SignalId}
+use Rattle.port_model.specs.declared.values.value.Value.{Value}
 use Rattle.sdl_build.specs.Context.{Context}
 use Rattle.build_constants.specs.declared.counts.InstanceCounts.{InstanceCounts}
 use Rattle.build_definitions.specs.Rows.{ProcessRow, ValueRow}

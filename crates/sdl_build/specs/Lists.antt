@@ -1,7 +1,7 @@
 -- The signals that signal lists stand for, also through lists within them (Z.101: signal list).
 use Rattle.std.specs.Prelude.{◌≡◌, ◌<◌, ◌↔◌, ℕ, List, Some, length, slice_get}
 use Rattle.std.specs.List.{Contains}
-use Rattle.port_values.specs.declared.item.SignalId.{SignalId}
+use Rattle.port_model.specs.declared.values.item.SignalId.{SignalId}
 use Rattle.build_routes.specs.SignalLists.{StandsFor}
 use Rattle.build_routes.specs.declared.network.list.ListId.{ListId}
 use Rattle.build_routes.specs.declared.network.joined.Network.{Network}

@@ -1,6 +1,6 @@
 -- What stands around each process of a specification: what the names in it stand for.
 use Rattle.std.specs.Prelude.{◌||◌, ℕ, zero, suc, ◌+◌, ◌++◌, Bool, List, [], ◌∷◌, length}
-use Rattle.port_values.specs.declared.item.SignalId.{SignalId}
+use Rattle.port_model.specs.declared.values.item.SignalId.{SignalId}
 use Rattle.build_process.specs.Numbered.{numbered}
 use Rattle.sdl_build.specs.Context.{Context}
 use Rattle.build_definitions.specs.Definitions.{path_of}

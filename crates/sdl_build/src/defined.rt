@@ -12,7 +12,7 @@ use crate::signals::signals_of;
 use build_constants::ConstantTable;
 use build_definitions::Definitions;
 use indexmap::IndexMap;
-use port_values::SignalId;
+use port_model::SignalId;
 use sdl_system::{ProcessId, Signal};
 use std::alloc::{AllocError, Global};
 

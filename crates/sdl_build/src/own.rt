@@ -12,7 +12,7 @@ ghost use Rattle.sdl_system.specs.System.{meaning_of, named};
 use build_definitions::{ProcessEntry, SignalEntry, next_number};
 use build_names::ScopeId;
 use indexmap::IndexMap;
-use port_values::SignalId;
+use port_model::SignalId;
 use sdl_system::ProcessId;
 use std::alloc::{AllocError, Global};
 

@@ -3,7 +3,7 @@
 use crate::mistake::Mistake;
 use crate::views::Form;
 use clap::ArgMatches;
-use port_values::Ticks;
+use port_model::Ticks;
 use std::alloc::{AllocError, Global};
 use view_chart::{Selection, Wanted};
 

@@ -3,7 +3,7 @@
 ghost use Rattle.sdl_engine.specs.Log.{IsLogOf};
 
 use crate::runner::{Ran, Runner};
-use run_course::KeptWords;
+use port_model::KeptWords;
 use run_record::{Report, RunError};
 use sdl_report::{WriteFault, write_report};
 use sdl_script::Script;

@@ -6,8 +6,8 @@ use Rattle.std.proofs.lemmas.Option.{same_Some}
 use Rattle.sdl_system.specs.declared.state.Continuous.{Continuous}
 use Rattle.std.specs.Option.{option_map}
 use Rattle.port_model.specs.Take.{name_of}
-use Rattle.port_values.specs.declared.item.SignalId.{SignalId}
-use Rattle.port_values.specs.declared.value.Value.{Value}
+use Rattle.port_model.specs.declared.values.item.SignalId.{SignalId}
+use Rattle.port_model.specs.declared.values.value.Value.{Value}
 use Rattle.run_record.specs.Entry.{got_of}
 use Rattle.run_record.specs.declared.entry.Stimulus.{Stimulus}
 use Rattle.sdl_system.specs.declared.id.StateId.{StateId}

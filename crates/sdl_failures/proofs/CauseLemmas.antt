@@ -1,7 +1,7 @@
 -- A failure that is no lack of memory is the one that is meant.
 use Rattle.std.proofs.Common.{◌≡◌, ◌≢◌, ◌⊎◌, ◌∙◌, ℕ, Bool, List, Option, Result, Ok, Err, ap, inl, inr, sym}
-use Rattle.port_values.specs.declared.timer_key.TimerKey.{TimerKey}
-use Rattle.port_values.specs.declared.value.Value.{Value}
+use Rattle.port_model.specs.declared.values.timer_key.TimerKey.{TimerKey}
+use Rattle.port_model.specs.declared.values.value.Value.{Value}
 use Rattle.run_evaluation.specs.Environment.{Environment, sorts_of}
 use Rattle.run_evaluation.specs.Memory.{FailsAs}
 use Rattle.run_evaluation.specs.Value.{key_at, values_at}

@@ -1,8 +1,8 @@
 -- The variables with which an instance begins.
 use Rattle.std.proofs.Common.{◌≡◌, ℕ, zero, suc, List, [], ◌∷◌, ◌++◌, Option, None, Some, Ok, Contains, ap, map, refl, slice_get, subst, sym}
 use Rattle.std.specs.Borrow.{Bor}
-use Rattle.port_values.specs.declared.pid.Pid.TheVariants as pid
-use Rattle.port_values.specs.declared.value.Value.{Value}
+use Rattle.port_model.specs.declared.values.pid.Pid.TheVariants as pid
+use Rattle.port_model.specs.declared.values.value.Value.{Value}
 use Rattle.run_evaluation.specs.Knowledge.{KnowledgeValue, environment_of}
 use Rattle.run_evaluation.specs.Value.{values_at}
 use Rattle.run_evaluation.specs.Variables.{VariableList}

@@ -1,8 +1,8 @@
 -- What an entry got, by where it came from.
 use Rattle.std.proofs.Common.{◌≡◌, List, refl}
 use Rattle.port_model.specs.Take.{name_of}
-use Rattle.port_values.specs.declared.item.SignalId.{SignalId}
-use Rattle.port_values.specs.declared.value.Value.{Value}
+use Rattle.port_model.specs.declared.values.item.SignalId.{SignalId}
+use Rattle.port_model.specs.declared.values.value.Value.{Value}
 use Rattle.run_record.specs.Entry.{got_from}
 use Rattle.run_record.specs.Event.{values_got}
 use Rattle.run_record.specs.declared.entry.Origin as origin

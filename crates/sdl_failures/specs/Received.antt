@@ -1,8 +1,8 @@
 -- What an instance gets with a signal (Z.102: input).
 use Rattle.std.specs.Prelude.{◌++◌, List, [], ◌∷◌, Option, None, Some, Result, Ok, Err, drop, map, slice_get}
 use Rattle.std.specs.Option.{option_map}
-use Rattle.port_values.specs.declared.item.SignalId.{SignalId}
-use Rattle.port_values.specs.declared.value.Value.{Value}
+use Rattle.port_model.specs.declared.values.item.SignalId.{SignalId}
+use Rattle.port_model.specs.declared.values.value.Value.{Value}
 use Rattle.run_evaluation.specs.Value.{placed}
 use Rattle.run_evaluation.specs.Variables.{VariableList}
 use Rattle.run_evaluation.specs.declared.store.Store.{Store}

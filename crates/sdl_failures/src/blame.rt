@@ -8,7 +8,7 @@ ghost use Rattle.sdl_failures.specs.Reasons.{IsSo};
 use crate::operands::Scene;
 use crate::place::place_of;
 use crate::reason::{Blame, Reason};
-use port_values::Value;
+use port_model::Value;
 use sdl_lex::Place;
 use sdl_system::{
     Chain, Expression, Link, Operation, Sort, UnaryOperation, Variable, VariableId, in_sort,

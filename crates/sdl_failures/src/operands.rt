@@ -3,8 +3,7 @@
 ghost use Rattle.std.specs.Prelude.{◌≡◌};
 
 use crate::replayed::Known;
-use port_inbox::Alone;
-use port_values::{SignalId, Ticks, Value};
+use port_model::{Alone, SignalId, Ticks, Value};
 use run_evaluation::{Identity, Knowledge, evaluate, sorts_of};
 use run_record::Failure;
 use sdl_system::{Expression, Process, Sort, System};

@@ -1,6 +1,6 @@
 //! Why something fails, with the values that tell it.
 
-use port_values::Value;
+use port_model::Value;
 use sdl_lex::Place;
 use sdl_system::Arithmetic;
 

@@ -1,7 +1,7 @@
 //! What is said of a failure.
 
 use crate::reason::Reason;
-use port_values::Value;
+use port_model::Value;
 use run_record::Failure;
 use sdl_system::{Answer, Arithmetic, Comparison, Decision, number_of};
 use std::alloc::{AllocError, Global};

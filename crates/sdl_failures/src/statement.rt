@@ -10,7 +10,7 @@ use crate::operands::Scene;
 use crate::place::{action_place, end_place, place_of};
 use crate::reason::{Blame, Reason};
 use crate::replayed::later;
-use port_values::Ticks;
+use port_model::Ticks;
 use run_record::Failure;
 use sdl_interp::sort_of;
 use sdl_lex::Place;

@@ -8,7 +8,7 @@ use crate::reason::{Blame, Reason};
 use crate::replayed::{Failing, Halt, Misfit};
 use crate::sentence::{answers_text, failure_text, reason_text};
 use crate::statement::{site_place, statement_blame};
-use port_values::SignalId;
+use port_model::SignalId;
 use sdl_lex::Place;
 use sdl_system::{ConditionId, NodeId, Process, StateId, Statement, System};
 use sdl_tree::{Input, ProcessDefinition, Tree};

@@ -1,14 +1,14 @@
 -- What each deed inside of a transition brings: from the work `m` to `n`.
 use Rattle.std.proofs.Common.{◌≡◌, ◌≢◌, ◌+◌, refl, ℕ, List, [], ◌∷◌, Option, Some, Result, Ok, Err, true}
-use Rattle.port_inbox.specs.Calls.{after_reset, after_set, after_stop}
+use Rattle.port_model.specs.Calls.{after_reset, after_set, after_stop}
 use Rattle.port_model.specs.History.{Reset, Set, Stop}
 use Rattle.port_model.specs.Port.{remove_from, set_in}
 use Rattle.port_model.specs.declared.error.PortError.{PortError}
 use Rattle.port_model.specs.declared.error.PortError.TheVariants.{SetsSpent}
-use Rattle.port_values.specs.declared.pid.Pid.TheVariants.{Of}
+use Rattle.port_model.specs.declared.values.pid.Pid.TheVariants.{Of}
 use Rattle.port_model.specs.declared.plain_port.TheConstants.{MOST_SETS}
-use Rattle.port_values.specs.declared.timer_key.TimerKey.{TimerKey}
-use Rattle.port_values.specs.declared.value.Value.{Value}
+use Rattle.port_model.specs.declared.values.timer_key.TimerKey.{TimerKey}
+use Rattle.port_model.specs.declared.values.value.Value.{Value}
 use Rattle.run_evaluation.specs.Environment.{Environment, environment}
 use Rattle.run_evaluation.specs.Value.{at_place, key_at, value_of, values_at}
 use Rattle.run_record.specs.Event as event

@@ -1,6 +1,6 @@
 -- The first deed of a step: the start, what a take gives, a continuous signal, or a failure in a state.
 use Rattle.std.proofs.Common.{◌≡◌, ◌∙◌, sym, ap, subst, refl, ℕ, ◌≤◌, true, false, List, [], ◌∷◌, Some, slice_get}
-use Rattle.port_inbox.specs.Calls.{HasDrawn, after_draws, after_stop}
+use Rattle.port_model.specs.Calls.{HasDrawn, after_draws, after_stop}
 use Rattle.port_model.specs.History.{PortEvent, Stop, Take}
 use Rattle.port_model.specs.Port.{PortState}
 use Rattle.port_model.specs.Take.{name_of}

@@ -1,14 +1,14 @@
 -- What holds of an instance: at its beginning, after a step, as something comes into its port, and as it is closed.
 use Rattle.std.proofs.Common.{◌≡◌, ◌∙◌, ◌==◌, if◌then◌else◌, zero, suc, sym, ap, subst, refl, ℕ, Bool, true, false, IsTrue, List, [], ◌∷◌, ◌++◌, append-nil, drop, map, None, Some, Result, Ok, Err, MatchResult}
-use Rattle.port_inbox.specs.Calls.{ComesBack, after_entry}
-use Rattle.port_inbox.specs.Ends.{AloneState, OwnerState, single}
-use Rattle.port_inbox.specs.declared.entry.Entry.{Entry}
-use Rattle.port_inbox.specs.declared.entry.Entry.TheVariants.{Timer}
-use Rattle.port_inbox.specs.declared.entry.Fuse.{Fuse}
+use Rattle.port_model.specs.Calls.{ComesBack, after_entry}
+use Rattle.port_model.specs.Ends.{AloneState, OwnerState, single}
+use Rattle.port_model.specs.declared.inbox.entry.Entry.{Entry}
+use Rattle.port_model.specs.declared.inbox.entry.Entry.TheVariants.{Timer}
+use Rattle.port_model.specs.declared.inbox.entry.Fuse.{Fuse}
 use Rattle.port_model.specs.declared.refused.Refused.{Refused}
 use Rattle.port_model.specs.Port.{PortState, expire_in, put_into}
-use Rattle.port_values.specs.declared.item.Item.{Item}
-use Rattle.port_values.specs.declared.value.Value.{Value}
+use Rattle.port_model.specs.declared.values.item.Item.{Item}
+use Rattle.port_model.specs.declared.values.value.Value.{Value}
 use Rattle.sdl_interp.specs.Instance.{IsAtRest, IsClosed, IsInstance, closing, instance_of, variables_from}
 use Rattle.sdl_interp.specs.Stimulus.{IsAnswered, IsStepped, Responds, StepsFrom}
 use Rattle.run_evaluation.specs.declared.identity.Identity.{Identity}

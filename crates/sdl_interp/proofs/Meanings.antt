@@ -2,9 +2,9 @@
 use Rattle.std.proofs.Common.{◌≡◌, ◌∙◌, sym, ap, subst, refl, ℕ, List, Option, None, Some, Result, Ok, Err, map, slice_get}
 use Rattle.std.proofs.lemmas.Option.{slice_get-map}
 use Rattle.std.specs.Option.{option_map}
-use Rattle.port_values.specs.declared.item.SignalId.{SignalId}
-use Rattle.port_values.specs.declared.timer_key.TimerKey.{TimerKey}
-use Rattle.port_values.specs.declared.value.Value.{Value}
+use Rattle.port_model.specs.declared.values.item.SignalId.{SignalId}
+use Rattle.port_model.specs.declared.values.timer_key.TimerKey.{TimerKey}
+use Rattle.port_model.specs.declared.values.value.Value.{Value}
 use Rattle.run_evaluation.specs.Environment.{Environment, environment, sorts_of}
 use Rattle.run_evaluation.specs.Knowledge.{KnowledgeValue, environment_of}
 use Rattle.run_evaluation.specs.Value.{at_place, key_at, value_of, values_at}

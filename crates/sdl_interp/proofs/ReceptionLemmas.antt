@@ -1,9 +1,9 @@
 -- The values of a signal go to the variables of its input, one after the other.
 use Rattle.std.proofs.Common.{◌≡◌, ◌⊎◌, ◌∙◌, inl, inr, sym, ap, subst, refl, List, [], ◌∷◌, Option, None, Some, Ok, Err, option_map, slice_get}
 use Rattle.std.proofs.lemmas.Option.{slice_get-map}
-use Rattle.port_inbox.specs.Ends.{OwnerState}
+use Rattle.port_model.specs.Ends.{OwnerState}
 use Rattle.port_model.specs.Port.{PortState}
-use Rattle.port_values.specs.declared.value.Value.{Value}
+use Rattle.port_model.specs.declared.values.value.Value.{Value}
 use Rattle.run_evaluation.specs.Value.{placed}
 use Rattle.run_evaluation.specs.declared.store.Store.{Store}
 use Rattle.sdl_interp.specs.Stimulus.{HasVariables}

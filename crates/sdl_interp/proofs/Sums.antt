@@ -1,6 +1,6 @@
 -- What a chain of two known operands comes to.
 use Rattle.std.proofs.Common.{◌≡◌, ◌∙◌, ap, arith, sym, List, [], ◌∷◌, Ok, get_or, length, map}
-use Rattle.port_values.specs.declared.value.Value.{Value}
+use Rattle.port_model.specs.declared.values.value.Value.{Value}
 use Rattle.run_evaluation.specs.Environment.{Environment}
 use Rattle.run_evaluation.specs.Value.{given, operated, value_of}
 use Rattle.sdl_system.specs.Operation.{applied}

@@ -1,5 +1,5 @@
 -- What a node does, whatever stands where it begins.
-use Rattle.port_values.specs.declared.value.Value.{Value}
+use Rattle.port_model.specs.declared.values.value.Value.{Value}
 use Rattle.run_evaluation.specs.Environment.{environment}
 use Rattle.run_evaluation.specs.Value as evaluated
 use Rattle.run_evaluation.specs.declared.store.Store.{Store}

@@ -1,8 +1,8 @@
 -- An instance of a process, as its callers see it (Z.101: agent).
 use Rattle.std.specs.Prelude.{◌≡◌, ◌≢◌, ◌⊎◌, ◌+◌, ◌<◌, Bool, true, false, List, [], ◌∷◌, ◌++◌, None, Some, IfSome, drop, length, map, slice_get}
-use Rattle.port_inbox.specs.Ends.{OwnerState}
+use Rattle.port_model.specs.Ends.{OwnerState}
 use Rattle.port_model.specs.declared.selection.Class.{Class}
-use Rattle.port_values.specs.declared.value.Value.{Value}
+use Rattle.port_model.specs.declared.values.value.Value.{Value}
 use Rattle.run_evaluation.specs.Environment.{initial_store}
 use Rattle.run_evaluation.specs.Variables.{VariableList}
 use Rattle.run_evaluation.specs.declared.identity.Identity.{Identity}

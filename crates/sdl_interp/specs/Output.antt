@@ -1,10 +1,10 @@
 -- What it means that a signal is sent.
 use Rattle.std.specs.Prelude.{◌≡◌, List}
-use Rattle.port_inbox.specs.Ends.{OwnerState}
-use Rattle.port_inbox.specs.declared.entry.Entry.{Entry}
-use Rattle.port_values.specs.declared.item.SignalId.{SignalId}
-use Rattle.port_values.specs.declared.pid.Pid.TheVariants.{Of}
-use Rattle.port_values.specs.declared.value.Value.{Value}
+use Rattle.port_model.specs.Ends.{OwnerState}
+use Rattle.port_model.specs.declared.inbox.entry.Entry.{Entry}
+use Rattle.port_model.specs.declared.values.item.SignalId.{SignalId}
+use Rattle.port_model.specs.declared.values.pid.Pid.TheVariants.{Of}
+use Rattle.port_model.specs.declared.values.value.Value.{Value}
 use Rattle.run_record.specs.Event as event
 use Rattle.run_semantics.specs.Effect.{Send}
 use Rattle.run_semantics.specs.World.{IsRoute, WorldValue, after_effect}

@@ -1,8 +1,8 @@
 -- An instance in the midst of a step, as the definitions see it.
 use Rattle.std.specs.Prelude.{◌≡◌, ◌≢◌, ◌<◌, ◌≤◌, ◌-◌, ℕ, List, length, true}
-use Rattle.port_inbox.specs.Calls.{after_stop}
-use Rattle.port_inbox.specs.Ends.{OwnerState}
-use Rattle.port_inbox.specs.declared.entry.Entry.{Entry}
+use Rattle.port_model.specs.Calls.{after_stop}
+use Rattle.port_model.specs.Ends.{OwnerState}
+use Rattle.port_model.specs.declared.inbox.entry.Entry.{Entry}
 use Rattle.run_evaluation.specs.Knowledge.{KnowledgeValue}
 use Rattle.run_record.specs.Event.{Event, values_of}
 use Rattle.run_record.specs.Event as event

@@ -1,14 +1,14 @@
 -- What begins a step of an instance.
 use Rattle.std.specs.Prelude.{◌≡◌, ◌≤◌, ℕ, List, Option, None, Some, false, map, true}
 use Rattle.std.specs.List.{AllZip}
-use Rattle.port_inbox.specs.Calls.{TakesHere, after_stop}
-use Rattle.port_inbox.specs.Ends.{OwnerState}
-use Rattle.port_inbox.specs.declared.entry.Entry.{Entry}
+use Rattle.port_model.specs.Calls.{TakesHere, after_stop}
+use Rattle.port_model.specs.Ends.{OwnerState}
+use Rattle.port_model.specs.declared.inbox.entry.Entry.{Entry}
 use Rattle.port_model.specs.declared.got.Got.{Got}
 use Rattle.port_model.specs.declared.selection.Class.{Class}
 use Rattle.port_model.specs.declared.taken.Taken.{Taken}
 use Rattle.port_model.specs.declared.taken.Taken.TheVariants.{Nothing}
-use Rattle.port_values.specs.declared.value.Value.{Value}
+use Rattle.port_model.specs.declared.values.value.Value.{Value}
 use Rattle.run_evaluation.specs.Environment.{environment}
 use Rattle.sdl_interp.specs.Selected.{IsTried}
 use Rattle.run_record.specs.Event as event

@@ -1,6 +1,6 @@
 -- What a piece of a transition does, wherever it stands.
 use Rattle.std.specs.Prelude.{◌≡◌, Option}
-use Rattle.port_inbox.specs.Ends.{OwnerState}
+use Rattle.port_model.specs.Ends.{OwnerState}
 use Rattle.run_record.specs.declared.failure.Failure.{Failure}
 use Rattle.run_semantics.specs.Behaves.{Behaves}
 use Rattle.run_semantics.specs.Fails.{Fails}

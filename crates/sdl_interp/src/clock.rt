@@ -4,7 +4,7 @@ ghost use Rattle.std.specs.Prelude.{◌≡◌, ◌≤◌};
 ghost use Rattle.run_semantics.specs.World.{IsReading};
 
 use crate::transitions::Machine;
-use port_values::Ticks;
+use port_model::Ticks;
 use run_semantics::World;
 
 /// Reads the clock. Where it lies before the time of the latest step, that time stays.

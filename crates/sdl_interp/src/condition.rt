@@ -9,7 +9,7 @@ ghost use Rattle.run_semantics.specs.Selection.{first_failure};
 ghost use Rattle.sdl_system.specs.Behaviour.{condition_in};
 ghost use Rattle.sdl_system.specs.Term.{Term};
 
-use port_inbox::Inbox;
+use port_model::Inbox;
 use run_evaluation::{Knowledge, is_true};
 use run_record::Failure;
 use sdl_system::{ConditionId, Enabling, Process};

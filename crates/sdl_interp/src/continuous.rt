@@ -11,7 +11,7 @@ ghost use Rattle.sdl_system.specs.Behaviour.{ContinuousSignal, MeansContinuous};
 ghost use Rattle.sdl_system.specs.declared.id.NodeId.{NodeId};
 
 use crate::condition::is_condition_true;
-use port_inbox::Inbox;
+use port_model::Inbox;
 use run_evaluation::Knowledge;
 use run_record::Failure;
 use sdl_system::{Continuous, Process};

@@ -1,9 +1,9 @@
 //! An instance of a process (Z.101: agent).
 
 ghost use Rattle.std.specs.Prelude.{◌≡◌, ◌==◌, ◌&&◌, ◌<◌, [], IfOk, IsTrue, MatchResult, Some, false, length, slice_get};
-ghost use Rattle.port_inbox.specs.Calls.{ComesBack, after_entry};
-ghost use Rattle.port_inbox.specs.Ends.{single};
-ghost use Rattle.port_inbox.specs.declared.entry.Entry.TheVariants.{Timer};
+ghost use Rattle.port_model.specs.Calls.{ComesBack, after_entry};
+ghost use Rattle.port_model.specs.Ends.{single};
+ghost use Rattle.port_model.specs.declared.inbox.entry.Entry.TheVariants.{Timer};
 ghost use Rattle.port_model.specs.Port.{empty_port, expires, is_spent, put_into};
 ghost use Rattle.run_semantics.specs.Instance.{parameters_from};
 ghost use Rattle.sdl_interp.specs.Instance.{HasNothing, HasRunOf, IsAtRest, IsClosed, Keeps, NeedsStep, Steps, came_to, created, variables_from};
@@ -11,8 +11,7 @@ ghost use Rattle.sdl_interp.specs.Instance.{HasNothing, HasRunOf, IsAtRest, IsCl
 use crate::ahead::Ahead;
 use crate::stimulus::{fail_at, step_from};
 use crate::transitions::{Core, Machine, Position};
-use port_inbox::{Alone, Fuse, Inbox, Refused};
-use port_values::{Item, Ticks, Value, Values};
+use port_model::{Alone, Fuse, Inbox, Item, Refused, Ticks, Value, Values};
 use run_evaluation::{Identity, Store, Variables};
 use run_record::Record;
 use run_semantics::World;

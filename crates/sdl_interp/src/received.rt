@@ -11,8 +11,7 @@ ghost use Rattle.sdl_interp.specs.Machine.{identity_of};
 
 use crate::clock::read_clock;
 use crate::transitions::Machine;
-use port_model::Got;
-use port_values::{Pid, SignalId, Ticks, Value};
+use port_model::{Got, Pid, SignalId, Ticks, Value};
 use run_semantics::World;
 
 /// Notes the sender of a consumed signal and the time of its transition, and that no statement of it is done yet. The

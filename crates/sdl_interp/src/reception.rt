@@ -4,7 +4,7 @@ ghost use Rattle.std.specs.Prelude.{◌≡◌, IfErr, OnOk};
 ghost use Rattle.sdl_interp.specs.Stimulus.{Receives, ReceivesWrong};
 
 use crate::transitions::{Machine, sort_of};
-use port_values::Value;
+use port_model::Value;
 use run_evaluation::place;
 use run_record::Failure;
 use sdl_system::{Process, VariableId};

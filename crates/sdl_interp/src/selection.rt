@@ -2,14 +2,12 @@
 
 ghost use Rattle.std.specs.Prelude.{◌≡◌, ◌<◌, IfErr, IfOk, length, slice_set};
 ghost use Rattle.port_model.specs.Selection as selection;
-ghost use Rattle.port_values.specs.declared.item.SignalId.{SignalId};
+ghost use Rattle.port_model.specs.declared.values.item.SignalId.{SignalId};
 ghost use Rattle.sdl_interp.specs.Selected.{AreShut, SelectsBy, SelectsNone};
 ghost use Rattle.sdl_system.specs.Soundness.{IsEnabled};
 
 use crate::condition::truths;
-use port_inbox::Inbox;
-use port_model::{Class, Selection};
-use port_values::SignalId;
+use port_model::{Class, Inbox, Selection, SignalId};
 use run_evaluation::Knowledge;
 use run_record::Failure;
 use sdl_system::{Enabled, Process, StateTable};

@@ -2,7 +2,7 @@
 use Rattle.std.specs.Prelude.{ℕ, List, [], slice_get}
 use Rattle.std.specs.Option.{option_map_or}
 use Rattle.std.specs.String.{string_bytes}
-use Rattle.port_values.specs.declared.item.SignalId.{SignalId}
+use Rattle.port_model.specs.declared.values.item.SignalId.{SignalId}
 use Rattle.sdl_system.specs.System.{SystemValue}
 use Rattle.sdl_system.specs.declared.id.ProcessId.{ProcessId}
 use Rattle.sdl_system.specs.declared.id.StateId.{StateId}

@@ -3,10 +3,10 @@ use Rattle.std.specs.Prelude.{ℕ, List, [], ◌∷◌, ◌++◌, Option, Some, 
 use Rattle.std.specs.List.{flat_map}
 use Rattle.std.specs.Fmt.{decimal}
 use Rattle.port_model.specs.Take.{name_of}
-use Rattle.port_values.specs.Text.{pid_text, value_text, values_text}
+use Rattle.port_model.specs.Text.{pid_text, value_text, values_text}
 use Rattle.port_model.specs.declared.got.Got as got
-use Rattle.port_values.specs.declared.item.SignalId.{SignalId}
-use Rattle.port_values.specs.declared.value.Value.{Value}
+use Rattle.port_model.specs.declared.values.item.SignalId.{SignalId}
+use Rattle.port_model.specs.declared.values.value.Value.{Value}
 use Rattle.sdl_system.specs.System.{SystemValue}
 use Rattle.sdl_system.specs.declared.route.Target as target
 use Rattle.sdl_system.specs.declared.route.Target.TheVariants as reached

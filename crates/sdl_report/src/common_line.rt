@@ -2,7 +2,7 @@
 
 ghost use Rattle.std.specs.Prelude.{◌≡◌, ◌+◌, ◌≤◌, ◌++◌, codes, length, take, IfNone, IfSome};
 ghost use Rattle.std.specs.Fmt.{decimal};
-ghost use Rattle.port_values.specs.Text.{pid_text, value_text, values_text};
+ghost use Rattle.port_model.specs.Text.{pid_text, value_text, values_text};
 ghost use Rattle.run_record.specs.Entry.{event_of};
 ghost use Rattle.sdl_report.specs.ReportText.{event_line, line, target_text};
 
@@ -11,7 +11,7 @@ use crate::put::{
 };
 use crate::short_name::{ShortName, put_name};
 use crate::short_names::ShortNames;
-use port_values::{Pid, Value};
+use port_model::{Pid, Value};
 use run_record::{Entry, Record};
 use sdl_system::Target;
 

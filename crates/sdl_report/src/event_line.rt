@@ -3,14 +3,14 @@
 ghost use Rattle.std.specs.Fmt.{decimal};
 ghost use Rattle.std.specs.Prelude.{◌≡◌, ◌++◌, codes, OnOk};
 ghost use Rattle.std.specs.String.{string_bytes};
-ghost use Rattle.port_values.specs.Text.{value_text, values_text};
+ghost use Rattle.port_model.specs.Text.{value_text, values_text};
 ghost use Rattle.run_record.specs.Entry.{event_of, got_of};
 ghost use Rattle.sdl_report.specs.Name.{process_name, variable_name};
 ghost use Rattle.sdl_report.specs.ReportText.{created_text, event_line, line, signal_text, stimulus_text, target_text};
 
 use crate::names::{process_name, signal_name, state_name, variable_name};
 use crate::pieces::{push_number, push_pid, push_target, push_value};
-use port_values::{SignalId, Value};
+use port_model::{SignalId, Value};
 use run_record::{Entry, Record, Stimulus};
 use sdl_system::{ProcessId, System, Target, VariableId};
 use std::alloc::AllocError;

@@ -4,7 +4,7 @@ ghost use Rattle.std.specs.Prelude.{◌≡◌};
 ghost use Rattle.sdl_report.specs.Name.{name_of_state, name_of_variable};
 ghost use Rattle.sdl_report.specs.Name.{process_name, signal_name, state_name, variable_name};
 
-use port_values::SignalId;
+use port_model::SignalId;
 use sdl_system::{Process, ProcessId, StateId, System, VariableId};
 
 /// The name of a signal or a timer, empty where the system doesn't have its number.

@@ -11,7 +11,7 @@ use crate::common_line::{LINE, put_event};
 use crate::put::put_text;
 use crate::short_names::ShortNames;
 use crate::write_whole::{WriteFault, write_text};
-use port_values::Value;
+use port_model::Value;
 use run_record::{Entry, Record};
 use std::alloc::{AllocError, Global};
 use std::io::Write;

@@ -4,11 +4,11 @@
 ghost use Rattle.std.specs.Prelude.{◌≡◌, ◌<◌, ◌++◌, codes, OnOk};
 ghost use Rattle.std.specs.Fmt.{decimal, signed_decimal};
 ghost use Rattle.std.specs.String.{string_bytes};
-ghost use Rattle.port_values.specs.Text.{pid_text, value_text};
+ghost use Rattle.port_model.specs.Text.{pid_text, value_text};
 ghost use Rattle.sdl_report.specs.ReportText.{target_text};
 
 use itoa::Buffer;
-use port_values::{Pid, Value};
+use port_model::{Pid, Value};
 use sdl_system::Target;
 use std::alloc::AllocError;
 

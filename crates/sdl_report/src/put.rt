@@ -5,12 +5,12 @@
 
 ghost use Rattle.std.specs.Prelude.{◌≡◌, ◌+◌, ◌<◌, ◌≤◌, ◌++◌, ◌∷◌, [], codes, length, take};
 ghost use Rattle.std.specs.Fmt.{decimal, signed_decimal};
-ghost use Rattle.port_values.specs.Text.{pid_text, value_text, values_text};
+ghost use Rattle.port_model.specs.Text.{pid_text, value_text, values_text};
 ghost use Rattle.sdl_report.specs.Digits.{three_digits};
 ghost use Rattle.sdl_report.specs.ReportText.{target_text};
 
 use itoa::Buffer;
-use port_values::{Pid, Value};
+use port_model::{Pid, Value};
 use sdl_system::Target;
 
 /// So many values at most may be put at once.

@@ -12,7 +12,7 @@ use crate::page::Page;
 use crate::record_text::push_heading;
 use crate::short_names::ShortNames;
 use crate::write_whole::{WriteFault, write_text};
-use port_values::Value;
+use port_model::Value;
 use run_record::{Entry, Record, Report};
 use sdl_system::System;
 use std::alloc::{AllocError, Global};

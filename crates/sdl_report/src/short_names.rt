@@ -5,7 +5,7 @@ ghost use Rattle.sdl_report.specs.Name.{signal_name, state_name, variable_name};
 ghost use Rattle.sdl_report.specs.ShortName.{process_names, short_of_signal, short_of_state, short_of_variable, signal_short, state_short, variable_short};
 
 use crate::short_name::ShortName;
-use port_values::SignalId;
+use port_model::SignalId;
 use sdl_system::{Process, ProcessId, Signal, State, StateId, System, Variable, VariableId};
 use std::alloc::{AllocError, Global};
 use std::marker::Model;

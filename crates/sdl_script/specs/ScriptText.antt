@@ -2,9 +2,9 @@
 use Rattle.std.specs.Prelude.{◌≡◌, ◌≢◌, ℕ, ◌+◌, ◌<◌, ◌≤◌, ◌==◌, Bool, true, not, IsTrue, Option, None, Some, ◌⊎◌, List, [], ◌∷◌, ◌++◌, length, slice_get, All}
 use Rattle.std.specs.List.{list_all, filter_map}
 use Rattle.std.specs.Option.{option_to_list}
-use Rattle.port_values.specs.declared.item.SignalId.{SignalId}
-use Rattle.port_values.specs.declared.pid.Pid.TheVariants.{Env, Of}
-use Rattle.port_values.specs.declared.value.Value.{Value}
+use Rattle.port_model.specs.declared.values.item.SignalId.{SignalId}
+use Rattle.port_model.specs.declared.values.pid.Pid.TheVariants.{Env, Of}
+use Rattle.port_model.specs.declared.values.value.Value.{Value}
 use Rattle.sdl_system.specs.Route.{reaches_process}
 use Rattle.sdl_system.specs.System.{SystemValue, meaning_of}
 use Rattle.sdl_system.specs.declared.id.ProcessId.{ProcessId}

@@ -1,7 +1,7 @@
 -- What is read of a line of a script, and why nothing is.
 use Rattle.std.specs.Prelude.{◌≡◌, Option, Some, None}
 use Rattle.std.specs.Option.{option_map}
-use Rattle.port_values.specs.declared.item.SignalId.{SignalId}
+use Rattle.port_model.specs.declared.values.item.SignalId.{SignalId}
 use Rattle.sdl_system.specs.System.{SystemValue}
 use Rattle.sdl_script.specs.declared.fault.Fault.{Fault}
 use Rattle.sdl_script.specs.declared.fault.Fault.TheVariants.{Syntax, BackInTime, UnknownSignal, Arguments, Memory}

@@ -1,10 +1,10 @@
 -- Values as they are spelled, and what they are at a parameter of some sort.
 use Rattle.std.specs.Prelude.{◌≡◌, ℤ, Bool, Option, None, Some, option_and_then}
 use Rattle.std.specs.Option.{option_map}
-use Rattle.port_values.specs.declared.pid.Pid as pid
-use Rattle.port_values.specs.declared.pid.Pid.TheVariants as who
-use Rattle.port_values.specs.declared.value.Value.{Value}
-use Rattle.port_values.specs.declared.value.Value.TheVariants as value
+use Rattle.port_model.specs.declared.values.pid.Pid as pid
+use Rattle.port_model.specs.declared.values.pid.Pid.TheVariants as who
+use Rattle.port_model.specs.declared.values.value.Value.{Value}
+use Rattle.port_model.specs.declared.values.value.Value.TheVariants as value
 use Rattle.sdl_system.specs.Sort.{as_natural}
 use Rattle.sdl_system.specs.declared.sort.Sort.{Sort}
 use Rattle.sdl_system.specs.declared.sort.Sort.TheVariants as sort

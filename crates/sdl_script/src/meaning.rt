@@ -9,7 +9,7 @@ use crate::fault::Fault;
 use crate::script::ScriptSignal;
 use crate::spelling::{SpelledReceiver, SpelledSignal};
 use crate::value::SpelledValue;
-use port_values::{Item, Pid, SignalId, Values};
+use port_model::{Item, Pid, SignalId, Values};
 use sdl_system::{Dest, Sort, System};
 use std::alloc::Global;
 

@@ -12,7 +12,7 @@ use crate::fault::Fault;
 use crate::line::split_line;
 use crate::meaning::signal_of;
 use crate::spelling::Spelling;
-use port_values::{Item, Ticks};
+use port_model::{Item, Ticks};
 use sdl_system::{Dest, System};
 use std::alloc::Global;
 use std::error::Error;

@@ -8,7 +8,7 @@ ghost use Rattle.sdl_script.specs.Spelling.{IsNoSpelling, SpellsLine, SpellsSign
 use crate::cursor::Cursor;
 use crate::fault::Fault;
 use crate::value::SpelledValue;
-use port_values::Ticks;
+use port_model::Ticks;
 use sdl_tree::is_reserved;
 use std::alloc::Global;
 

@@ -3,7 +3,7 @@
 ghost use Rattle.std.specs.Prelude.{◌≡◌};
 ghost use Rattle.sdl_system.specs.Sort.{as_natural};
 
-use port_values::{Pid, Value};
+use port_model::{Pid, Value};
 use sdl_system::Sort;
 
 /// A value as it is spelled. The sort of its place decides what it is there.

@@ -1,7 +1,7 @@
 -- The readers of a process answer what it means.
 use Rattle.std.proofs.Common.{◌≡◌, Bool, true, false, IsSomeAnd, List, MatchOption, Option, None, Some, slice_get, subst, sym}
 use Rattle.std.proofs.lemmas.Slice.Zip.{AllZip-right}
-use Rattle.port_values.specs.declared.item.SignalId.{SignalId}
+use Rattle.port_model.specs.declared.values.item.SignalId.{SignalId}
 use Rattle.sdl_system.specs.Behaviour.{Behaviour, Means, MeansResponse, MeansState, Response, StateMeaning, response_to}
 use Rattle.sdl_system.specs.Process.{reaction_by, reaction_in, table_in}
 use Rattle.sdl_system.specs.Signal.{is_member}

@@ -2,7 +2,7 @@
 use Rattle.std.proofs.Common.{◌≡◌, ◌||◌, ℕ, All, Bool, true, false, List, [], ◌∷◌, Option, None, Some, ap, arith, filter, refl, if◌then◌else◌}
 use Rattle.std.specs.List.{list_any}
 use Rattle.std.proofs.lemmas.List.Elements.{All-cons}
-use Rattle.port_values.specs.declared.item.SignalId.{SignalId}
+use Rattle.port_model.specs.declared.values.item.SignalId.{SignalId}
 use Rattle.sdl_system.specs.Route.{first_living, instance_or, is_any, living_in, or_later, reaches_env, receivers, target_in}
 use Rattle.sdl_system.specs.RouteLaws.{IsEmpty, IsTarget}
 use Rattle.sdl_system.specs.declared.id.ProcessId.{ProcessId}

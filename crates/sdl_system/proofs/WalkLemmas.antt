@@ -1,6 +1,6 @@
 -- How a table of nodes is walked.
 use Rattle.std.proofs.Common.{◌≡◌, ◌⊎◌, ◌∙◌, Bool, true, false, List, [], ◌∷◌, Option, None, Some, ap, inl, inr, slice_get, subst, sym, if◌then◌else◌}
-use Rattle.port_values.specs.declared.value.Value.{Value}
+use Rattle.port_model.specs.declared.values.value.Value.{Value}
 use Rattle.sdl_system.specs.Answer.{meets_one}
 use Rattle.sdl_system.specs.Body as body
 use Rattle.sdl_system.specs.Body.{Body, Parts, AllEnd, Ends, chosen, followed}

@@ -1,7 +1,7 @@
 -- Which values meet an answer of a decision (Z.102: decision).
 use Rattle.std.specs.Prelude.{Bool, List, ◌&&◌}
 use Rattle.std.specs.List.{list_any}
-use Rattle.port_values.specs.declared.value.Value.{Value}
+use Rattle.port_model.specs.declared.values.value.Value.{Value}
 use Rattle.sdl_system.specs.Operation.{compared}
 use Rattle.sdl_system.specs.declared.answer.Answer as answer
 use Rattle.sdl_system.specs.declared.answer.Answer.TheVariants as kind

@@ -2,8 +2,8 @@
 use Rattle.std.specs.Prelude.{◌≡◌, ℕ, Bool, List, Option, None, Some, length, map, slice_get, string_bytes}
 use Rattle.std.specs.List.{AllZip}
 use Rattle.std.specs.Option.{option_map}
-use Rattle.port_values.specs.declared.item.SignalId.{SignalId}
-use Rattle.port_values.specs.declared.value.Value.{Value}
+use Rattle.port_model.specs.declared.values.item.SignalId.{SignalId}
+use Rattle.port_model.specs.declared.values.value.Value.{Value}
 use Rattle.sdl_system.specs.Body.{Body}
 use Rattle.sdl_system.specs.Signal.{is_member}
 use Rattle.sdl_system.specs.State.{named_reaction, or_rest}

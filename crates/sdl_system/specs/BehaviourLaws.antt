@@ -1,6 +1,6 @@
 -- The readers of a process answer what it means.
 use Rattle.std.specs.Prelude.{◌≡◌, Some, slice_get}
-use Rattle.port_values.specs.declared.item.SignalId.{SignalId}
+use Rattle.port_model.specs.declared.values.item.SignalId.{SignalId}
 use Rattle.sdl_system.specs.Behaviour.{Behaviour, Means, MeansResponse, StateMeaning, response_to}
 use Rattle.sdl_system.specs.Process.{reaction_in}
 use Rattle.sdl_system.specs.declared.id.StateId.{StateId}

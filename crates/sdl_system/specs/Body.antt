@@ -1,8 +1,8 @@
 -- What a transition does, as plain data (Z.102: transition, task, output, set, reset, create, decision, join,
 -- nextstate, stop).
 use Rattle.std.specs.Prelude.{◌⊎◌, ℤ, List, Option, Some, None, if◌then◌else◌}
-use Rattle.port_values.specs.declared.item.SignalId.{SignalId}
-use Rattle.port_values.specs.declared.value.Value.{Value}
+use Rattle.port_model.specs.declared.values.item.SignalId.{SignalId}
+use Rattle.port_model.specs.declared.values.value.Value.{Value}
 use Rattle.sdl_system.specs.Answer.{meets_one}
 use Rattle.sdl_system.specs.Term.{Term}
 use Rattle.sdl_system.specs.declared.answer.Answer.{Answer}

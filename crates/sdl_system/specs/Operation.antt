@@ -2,9 +2,9 @@
 -- no number counts as 0, and what is no truth as false.
 use Rattle.std.specs.Prelude.{ℤ, pos, negsuc, zero, suc, neg_ℤ, ◌+ℤ◌, ◌-ℤ◌, ◌*ℤ◌, ◌^◌, ◌&&◌, ◌||◌, Bool, false, not, nat_lt, int_lt, int_le, int_div, int_rem, Result, Ok, Err, if◌then◌else◌}
 use Rattle.std.specs.Int.{int_rem_euclid}
-use Rattle.port_values.specs.Same.{same_value}
-use Rattle.port_values.specs.declared.value.Value.{Value}
-use Rattle.port_values.specs.declared.value.Value.TheVariants as value
+use Rattle.port_model.specs.Same.{same_value}
+use Rattle.port_model.specs.declared.values.value.Value.{Value}
+use Rattle.port_model.specs.declared.values.value.Value.TheVariants as value
 use Rattle.sdl_system.specs.declared.operation.Arithmetic as arithmetic
 use Rattle.sdl_system.specs.declared.operation.Arithmetic.TheVariants.{Plus, Minus, Times, Divide, Mod, Rem}
 use Rattle.sdl_system.specs.declared.operation.Comparison as comparison

@@ -1,7 +1,7 @@
 -- Laws of the operations and of the sorts.
 use Rattle.std.specs.Prelude.{◌≡◌, ◌≢◌, ◌↔◌, ◌<◌, ◌≤ℤ◌, ◌<ℤ◌, ◌+ℤ◌, ◌*ℤ◌, ℤ, pos, true, None, Some, IfSome, int_div, int_rem, unsigned_abs}
 use Rattle.std.specs.Int.{int_rem_euclid}
-use Rattle.port_values.specs.declared.value.Value.{Value}
+use Rattle.port_model.specs.declared.values.value.Value.{Value}
 use Rattle.sdl_system.specs.Operation.{compared, number_of, unsorted}
 use Rattle.sdl_system.specs.Sort.{as_sort, has_sort}
 use Rattle.sdl_system.specs.declared.operation.Comparison.TheVariants.{Equal}

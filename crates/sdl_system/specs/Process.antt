@@ -1,6 +1,6 @@
 -- What a state of a process does with a signal.
 use Rattle.std.specs.Prelude.{Option, None, Some, slice_get}
-use Rattle.port_values.specs.declared.item.SignalId.{SignalId}
+use Rattle.port_model.specs.declared.values.item.SignalId.{SignalId}
 use Rattle.sdl_system.specs.Signal.{is_member}
 use Rattle.sdl_system.specs.State.{choice_of, named_reaction, or_rest}
 use Rattle.sdl_system.specs.declared.id.StateId.{StateId}

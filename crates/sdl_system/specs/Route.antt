@@ -1,9 +1,9 @@
 -- Where a signal goes (Z.101: channel; Z.102: output), by the places to which paths lead it.
 use Rattle.std.specs.Prelude.{◌==◌, ◌||◌, ℕ, not, Bool, true, false, List, [], ◌∷◌, Option, None, Some, filter, option_and_then, slice_get, unwrap_or, if◌then◌else◌}
 use Rattle.std.specs.Option.{option_map_or}
-use Rattle.port_values.specs.declared.item.SignalId.{SignalId}
-use Rattle.port_values.specs.declared.pid.Pid as pid
-use Rattle.port_values.specs.declared.pid.Pid.TheVariants as who
+use Rattle.port_model.specs.declared.values.item.SignalId.{SignalId}
+use Rattle.port_model.specs.declared.values.pid.Pid as pid
+use Rattle.port_model.specs.declared.values.pid.Pid.TheVariants as who
 use Rattle.sdl_system.specs.declared.id.ProcessId.{ProcessId}
 use Rattle.sdl_system.specs.declared.route.Dest as dest
 use Rattle.sdl_system.specs.declared.route.Dest.TheVariants as to

@@ -1,6 +1,6 @@
 -- Each number that stands in a system is the number of something, and the tables of a state agree with one another.
 use Rattle.std.specs.Prelude.{◌≡◌, ◌↔◌, ◌<◌, ◌≤◌, ℕ, suc, true, List, None, Some, All, Contains, IfSome, length, slice_get}
-use Rattle.port_values.specs.declared.item.SignalId.{SignalId}
+use Rattle.port_model.specs.declared.values.item.SignalId.{SignalId}
 use Rattle.port_model.specs.Selection as selection
 use Rattle.port_model.specs.declared.selection.Class.TheVariants as class
 use Rattle.sdl_system.specs.Body as body

@@ -1,7 +1,7 @@
 -- What a state does with a signal (Z.101: state, input, save; Z.102: priority input, enabling condition).
 use Rattle.std.specs.Prelude.{◌==◌, Bool, List, Option, None, Some, if◌then◌else◌}
 use Rattle.std.specs.Map.{lookup}
-use Rattle.port_values.specs.declared.item.SignalId.{SignalId}
+use Rattle.port_model.specs.declared.values.item.SignalId.{SignalId}
 use Rattle.port_model.specs.declared.selection.Class.TheVariants as class
 use Rattle.sdl_system.specs.declared.state.Choice.{Choice}
 use Rattle.sdl_system.specs.declared.state.Reaction.{Reaction}

@@ -1,7 +1,7 @@
 -- What a table of nodes stands for: from a place on it has the statements of a body.
 use Rattle.std.specs.Prelude.{◌≡◌, ℕ, List, [], ◌∷◌, Option, None, Some, map, slice_get, if◌then◌else◌}
 use Rattle.std.specs.Option.{option_map}
-use Rattle.port_values.specs.declared.value.Value.{Value}
+use Rattle.port_model.specs.declared.values.value.Value.{Value}
 use Rattle.sdl_system.specs.Answer.{meets_one}
 use Rattle.sdl_system.specs.Body.{Body, Parts, Action, Terminator, Assigning, Whither, Timing, When, FromLabel, Ends}
 use Rattle.sdl_system.specs.Body as body

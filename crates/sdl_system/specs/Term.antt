@@ -1,7 +1,7 @@
 -- An expression as plain data (Z.104: expressions), with its names and sorts resolved.
 use Rattle.std.specs.Prelude.{List, [], ◌∷◌}
-use Rattle.port_values.specs.declared.item.SignalId.{SignalId}
-use Rattle.port_values.specs.declared.value.Value.{Value}
+use Rattle.port_model.specs.declared.values.item.SignalId.{SignalId}
+use Rattle.port_model.specs.declared.values.value.Value.{Value}
 use Rattle.sdl_system.specs.declared.expression.Chain.{Chain}
 use Rattle.sdl_system.specs.declared.expression.Expression.{Expression}
 use Rattle.sdl_system.specs.declared.expression.Expression.TheOpen.{Expression-F, Chain-F, Link-F}

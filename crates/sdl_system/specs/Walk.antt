@@ -1,6 +1,6 @@
 -- How a table of nodes is walked: what a node says of the statements that stand at its place.
 use Rattle.std.specs.Prelude.{◌≡◌, ◌⊎◌, List, Option, None, Some, slice_get}
-use Rattle.port_values.specs.declared.value.Value.{Value}
+use Rattle.port_model.specs.declared.values.value.Value.{Value}
 use Rattle.sdl_system.specs.Body as body
 use Rattle.sdl_system.specs.Body.{Body, Parts, Action, AllEnd, Ends, chosen, followed}
 use Rattle.sdl_system.specs.Table.{Has, HasParts, Stands, action_of, terminator_of, way_among}

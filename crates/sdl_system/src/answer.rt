@@ -4,7 +4,7 @@ ghost use Rattle.std.specs.Prelude.{◌≡◌};
 ghost use Rattle.sdl_system.specs.Answer.{is_met};
 
 use crate::operation::{Comparison, compare};
-use port_values::Value;
+use port_model::Value;
 
 /// An answer of a decision: the values with which the value of the question is compared.
 #[derive(Clone, Copy, PartialEq, Eq)]

@@ -2,7 +2,7 @@
 
 use crate::id::VariableId;
 use crate::operation::{Operation, UnaryOperation};
-use port_values::{SignalId, Value};
+use port_model::{SignalId, Value};
 
 /// An expression. Operators of one level stand in one chain, which groups to the left; what stood in parentheses stands
 /// in its place.

@@ -4,7 +4,7 @@ ghost use Rattle.std.specs.Prelude.{◌≡◌, int_div, int_rem};
 ghost use Rattle.std.specs.Int.{int_rem_euclid};
 ghost use Rattle.sdl_system.specs.Operation.{applied, applied_to_one, calculated, combined, compared, divided, number_in, number_of, truth_of, unsorted};
 
-use port_values::Value;
+use port_model::Value;
 use thiserror::Error;
 
 /// The sorts of numbers. A Natural is an Integer here.

@@ -9,7 +9,7 @@ use crate::signal::SignalSet;
 use crate::sort::Sort;
 use crate::state::{Reaction, StateTable};
 use crate::statement::Node;
-use port_values::{SignalId, Value};
+use port_model::{SignalId, Value};
 
 /// A process, of which instances are made.
 pub struct Process {

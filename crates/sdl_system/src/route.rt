@@ -5,7 +5,7 @@ ghost use Rattle.std.specs.List.{list_any};
 ghost use Rattle.sdl_system.specs.Route.{first_living, is_receiver, list_of, living_in, pid_target, reach_of, reaches_env, reaches_process, target_in};
 
 use crate::id::ProcessId;
-use port_values::{Pid, SignalId};
+use port_model::{Pid, SignalId};
 
 /// Who sends a signal: the environment, or an instance of a process.
 #[derive(Clone, Copy, PartialEq, Eq)]

@@ -5,7 +5,7 @@ ghost use Rattle.sdl_system.specs.Signal.{is_member};
 
 use crate::id::ProcessId;
 use crate::sort::Sort;
-use port_values::SignalId;
+use port_model::SignalId;
 use std::marker::Model;
 
 /// A signal, or a timer, whose signal comes when it is due. They share their numbers, in the order of the text.

@@ -4,7 +4,7 @@ ghost use Rattle.std.specs.Prelude.{◌≡◌};
 ghost use Rattle.sdl_system.specs.Sort.{as_sort, pid_of};
 
 use crate::operation::{number_of, truth_of};
-use port_values::{Pid, Value};
+use port_model::{Pid, Value};
 
 /// A sort of values. Natural values are the Integer values that aren't negative, and count as Integer in every
 /// expression.

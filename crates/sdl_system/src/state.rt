@@ -5,8 +5,7 @@ ghost use Rattle.sdl_system.specs.State.{choice_of, named_reaction};
 
 use crate::id::{ConditionId, NodeId, VariableId};
 use indexmap::IndexMap;
-use port_model::{Class, Selection};
-use port_values::SignalId;
+use port_model::{Class, Selection, SignalId};
 use std::marker::Model;
 
 /// The table of a state: its reactions to signals, its enabling conditions and its continuous signals. States whose
@@ -54,7 +53,7 @@ impl Drop for Reactions {
 
 impl Model for Reactions {
     ghost use Rattle.std.specs.Prelude.{List};
-    ghost use Rattle.port_values.specs.declared.item.SignalId.{SignalId};
+    ghost use Rattle.port_model.specs.declared.values.item.SignalId.{SignalId};
     ghost use Rattle.sdl_system.specs.declared.state.Reaction.{Reaction};
 
     ghost Value = { List (SignalId × Reaction) };

@@ -8,7 +8,7 @@ ghost use Rattle.sdl_system.specs.Table.{way_of};
 use crate::answer::Answer;
 use crate::expression::Expression;
 use crate::id::{LabelId, NodeId, ProcessId, StateId, VariableId};
-use port_values::{SignalId, Value};
+use port_model::{SignalId, Value};
 
 /// A statement, and the node that comes next: after a decision the one behind its `enddecision`, after a join the one
 /// at its label. None comes behind what ends a transition, nor behind a decision all of whose parts end.

@@ -12,7 +12,7 @@ use crate::signal::Signal;
 use crate::state::{Choice, Reaction};
 use crate::statement::Node;
 use indexmap::IndexMap;
-use port_values::SignalId;
+use port_model::SignalId;
 use std::marker::Model;
 
 /// A specification whose names are resolved. Signals, with timers among them, and processes stand in the order of the

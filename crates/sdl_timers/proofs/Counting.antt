@@ -5,7 +5,7 @@ use Rattle.std.proofs.lemmas.Bool.{cond_both}
 use Rattle.std.proofs.lemmas.Bool.Decides.{nat_tests}
 use Rattle.std.proofs.lemmas.List.Elements.{All-tail}
 use Rattle.std.proofs.lemmas.List.Sums.{sum_by-append, sum_by-cons}
-use Rattle.port_inbox.specs.declared.entry.Fuse.{Fuse}
+use Rattle.port_model.specs.declared.inbox.entry.Fuse.{Fuse}
 use Rattle.sdl_timers.specs.declared.due.Due.{Due}
 use Rattle.sdl_timers.specs.DueOrder.{is_before, with_fuse}
 use Rattle.sdl_timers.specs.Slots.{armed, all_fuses, AreSorted, IsWheel}

@@ -5,7 +5,7 @@ use Rattle.std.proofs.Math.ListN.{get_or-map}
 use Rattle.std.proofs.lemmas.Bool.Decides.{nat_tests}
 use Rattle.std.proofs.lemmas.List.{get_or_default, map-set}
 use Rattle.std.proofs.lemmas.List.Elements.{All-nil, All-cons, All-tail, All-set, All-weaker, All-map, All-get_or, All-from_get_or, Contains-get_or}
-use Rattle.port_inbox.specs.declared.entry.Fuse.{Fuse}
+use Rattle.port_model.specs.declared.inbox.entry.Fuse.{Fuse}
 use Rattle.sdl_timers.specs.declared.due.Due.{Due}
 use Rattle.sdl_timers.specs.DueOrder.{due_of, first_of, is_before, with_fuse, Fires, IsInOrder, IsUpTo}
 use Rattle.sdl_timers.specs.Slots.{armed, all_fuses, AreSorted, IsWheel}

@@ -7,7 +7,7 @@ use Rattle.std.specs.Ordering.{is_lt, match_ordering, nat_cmp, ordering_then}
 use Rattle.std.specs.declared.cmp.Ordering.{Ordering}
 use Rattle.std.specs.declared.cmp.Ordering.TheVariants.{Less, Equal, Greater}
 use Rattle.std.proofs.lemmas.List.Elements.{All-nil, All-cons, All-head, All-tail, All-weaker}
-use Rattle.port_inbox.specs.declared.entry.Fuse.{Fuse}
+use Rattle.port_model.specs.declared.inbox.entry.Fuse.{Fuse}
 use Rattle.sdl_timers.specs.declared.turn.Turn.{Turn}
 use Rattle.sdl_timers.specs.DueOrder.{due_cmp, due_of, first_of, with_fuse}
 use Rattle.sdl_timers.specs.Turns.{HasItsTurn, HaveTheirTurns}

@@ -2,7 +2,7 @@
 use Rattle.std.specs.Prelude.{◌≡◌, ℕ, ◌<◌, ◌≤◌, Bool, false, List, [], ◌∷◌, Option, Some, None, All, if◌then◌else◌}
 use Rattle.std.specs.declared.cmp.Ordering.{Ordering}
 use Rattle.std.specs.Ordering.{is_lt, nat_cmp, ordering_then}
-use Rattle.port_inbox.specs.declared.entry.Fuse.{Fuse}
+use Rattle.port_model.specs.declared.inbox.entry.Fuse.{Fuse}
 use Rattle.sdl_timers.specs.declared.due.Due.{Due}
 
 -- Due order: by the time, then by the number of the port, then by that of the set.

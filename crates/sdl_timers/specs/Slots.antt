@@ -1,7 +1,7 @@
 -- How a wheel keeps its fuses.
 use Rattle.std.specs.Prelude.{◌≡◌, ℕ, ◌+◌, ◌%◌, List, [], ◌∷◌, Option, map, length, All}
 use Rattle.std.specs.List.{flat_map}
-use Rattle.port_inbox.specs.declared.entry.Fuse.{Fuse}
+use Rattle.port_model.specs.declared.inbox.entry.Fuse.{Fuse}
 use Rattle.sdl_timers.specs.declared.due.Due.{Due}
 use Rattle.sdl_timers.specs.DueOrder.{first_of, with_fuse, IsInOrder}
 

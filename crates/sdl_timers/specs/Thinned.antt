@@ -1,6 +1,6 @@
 -- Fuses without some that have no effect any more.
 use Rattle.std.specs.Prelude.{◌≡◌, ◌⊎◌, Bool, true, List, [], ◌∷◌}
-use Rattle.port_inbox.specs.declared.entry.Fuse.{Fuse}
+use Rattle.port_model.specs.declared.inbox.entry.Fuse.{Fuse}
 
 -- What is left of some fuses is this, in its order; each of the others is spent.
 abbrev pub Thins : (Fuse → Bool) → List Fuse → List Fuse → Type 0

@@ -1,6 +1,6 @@
 -- How a slot keeps its fuses.
 use Rattle.std.specs.Prelude.{◌≡◌, ℕ, ◌<◌, List, All}
-use Rattle.port_inbox.specs.declared.entry.Fuse.{Fuse}
+use Rattle.port_model.specs.declared.inbox.entry.Fuse.{Fuse}
 use Rattle.sdl_timers.specs.declared.turn.Turn.{Turn}
 use Rattle.sdl_timers.specs.DueOrder.{due_of}
 

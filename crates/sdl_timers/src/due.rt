@@ -3,8 +3,7 @@
 ghost use Rattle.std.specs.Prelude.{◌≡◌, ◌%◌};
 ghost use Rattle.sdl_timers.specs.DueOrder.{due_of, earlier};
 
-use port_inbox::Fuse;
-use port_values::{Arm, Ticks};
+use port_model::{Arm, Fuse, Ticks};
 
 /// Where a fuse stands in due order: by its time, then by the number of its port, then by that of its set.
 #[derive(Clone, Copy, PartialEq, Eq, PartialOrd, Ord)]

@@ -4,7 +4,7 @@ ghost use Rattle.std.specs.Prelude.{◌≡◌, ◌≤◌, false, IfOk};
 ghost use Rattle.std.specs.Arc.{arc_value};
 
 use crate::rule::{Load, NewReader, Place, Word};
-use port_values::Ticks;
+use port_model::Ticks;
 use std::alloc::{AllocError, Global};
 use std::marker::Model;
 use std::sync::Arc;

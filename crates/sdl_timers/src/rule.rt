@@ -1,6 +1,6 @@
 //! The rule of a clock, and what each atomic step on its word tells.
 use atomic_table::{Play, Seat, Split, Table, TableRule};
-use port_values::Ticks;
+use port_model::Ticks;
 use std::alloc::Global;
 
 /// The knowledge of a seat at the clock's word. No value of it is made.

@@ -2,12 +2,12 @@
 
 ghost use Rattle.std.specs.Prelude.{◌≡◌};
 
-use port_inbox::Fuse;
+use port_model::Fuse;
 
 /// Fuses by which no timer runs any more: the timer was reset, set again or stopped. Their expiry changes nothing.
 pub trait SpentFuses {
     ghost use Rattle.std.specs.Prelude.{Bool};
-    ghost use Rattle.port_inbox.specs.declared.entry.Fuse.{Fuse};
+    ghost use Rattle.port_model.specs.declared.inbox.entry.Fuse.{Fuse};
 
     /// Whether a fuse is one of them.
     ghost spent: { Self → Fuse → Bool };

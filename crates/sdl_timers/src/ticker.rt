@@ -4,7 +4,7 @@ ghost use Rattle.std.specs.Prelude.{◌≡◌, max, IfOk};
 
 use crate::reader::Reader;
 use crate::rule::{NewReader, Place, Raise, Word};
-use port_values::Ticks;
+use port_model::Ticks;
 use std::alloc::{AllocError, Global};
 use std::marker::Model;
 use std::sync::Arc;

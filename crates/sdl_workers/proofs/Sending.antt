@@ -1,7 +1,7 @@
 -- The signals of a script for a system are of the environment.
 use Rattle.std.proofs.Common.{◌≡◌, List, Option, None, Some, All, IfSome}
 use Rattle.std.proofs.lemmas.List.Elements.{All-weaker}
-use Rattle.port_values.specs.declared.pid.Pid.TheVariants.{Env}
+use Rattle.port_model.specs.declared.values.pid.Pid.TheVariants.{Env}
 use Rattle.sdl_script.specs.Script.{IsFromEnv, SendsFromEnv}
 use Rattle.sdl_script.specs.declared.script.ScriptLine.{ScriptLine}
 use Rattle.sdl_script.specs.declared.script.ScriptSignal.{ScriptSignal}

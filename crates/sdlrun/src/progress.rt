@@ -1,6 +1,6 @@
 //! How far a run is: a line on standard error that is written over, and is gone at the end.
 
-use port_values::Ticks;
+use port_model::Ticks;
 use sdl_engine::Listener;
 use std::io::{IsTerminal, Stderr, Write};
 use std::time::{Duration, Instant};

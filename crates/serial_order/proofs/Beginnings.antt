@@ -1,7 +1,7 @@
 -- The instances with which a system begins: they have the numbers from 1 on, and are told.
 use Rattle.std.proofs.Common.{◌≡◌, ◌∙◌, ◌+◌, ◌≤◌, add-zero, ap, arith, inl, inr, refl, subst, sym, zero-add, ℕ, zero, suc, List, [], ◌∷◌, Some, length, slice_get}
 use Rattle.std.proofs.lemmas.Option.{none-some, same_Some}
-use Rattle.port_values.specs.declared.pid.Pid.TheVariants.{Null}
+use Rattle.port_model.specs.declared.values.pid.Pid.TheVariants.{Null}
 use Rattle.serial_order.proofs.Known.{AreKnown, IsKnown, known_as, known_new}
 use Rattle.serial_order.proofs.Numbers.{at_append}
 use Rattle.run_semantics.specs.Behaves.{AreBehaviours}

@@ -1,10 +1,10 @@
 -- Each time in a record is the clock's.
 use Rattle.std.proofs.Common.{◌≡◌, ◌∙◌, ◌++◌, ◌≤◌, ap, arith, if◌then◌else◌, inl, inr, max, min, refl, subst, sym, ℕ, Bool, true, false, IfSome, List, [], ◌∷◌, None, Option, Some, map, nat_le, slice_get}
 use Rattle.std.proofs.lemmas.List.Elements.{All-contains, All-map}
-use Rattle.port_inbox.specs.declared.entry.Fuse.{Fuse}
+use Rattle.port_model.specs.declared.inbox.entry.Fuse.{Fuse}
 use Rattle.port_model.specs.Timers.{IsLeast, earlier}
-use Rattle.port_values.specs.declared.pid.Pid.TheVariants.{Of}
-use Rattle.port_values.specs.declared.value.Value.{Value}
+use Rattle.port_model.specs.declared.values.pid.Pid.TheVariants.{Of}
+use Rattle.port_model.specs.declared.values.value.Value.{Value}
 use Rattle.serial_order.proofs.Beginnings.{first_time}
 use Rattle.serial_order.proofs.Histories.{are_followed, moment_from}
 use Rattle.serial_order.proofs.Known.{moment_of}

@@ -3,7 +3,7 @@ use Rattle.std.proofs.Common.{◌≡◌, ◌∙◌, ◌++◌, ◌<◌, ◌==◌,
 use Rattle.std.proofs.lemmas.Option.{same_Some}
 use Rattle.port_model.specs.History.{PortEvent}
 use Rattle.port_model.specs.Port.{empty_port}
-use Rattle.port_inbox.specs.declared.placed.Placed.{Placed}
+use Rattle.port_model.specs.declared.inbox.placed.Placed.{Placed}
 use Rattle.serial_order.proofs.Beginnings.{known_beginning}
 use Rattle.serial_order.proofs.Known.{AreKnown, IsKnown, effects_known, effects_moment, are_known_as, expiry_known, known_as, moment_of, same_known}
 use Rattle.serial_order.proofs.Made.{MakeNext, deeds_make}

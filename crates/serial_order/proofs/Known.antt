@@ -2,13 +2,13 @@
 use Rattle.std.proofs.Common.{◌≡◌, ◌∙◌, ◌+◌, ◌++◌, ◌<◌, ◌==◌, ◌&&◌, ap, append-nil, append_assoc, arith, length-append, if◌then◌else◌, inl, inr, refl, subst, sym, ℕ, zero, suc, Bool, true, false, List, [], ◌∷◌, Option, Some, length, map, nat_le, slice_get, drop}
 use Rattle.std.specs.List.{AllZip}
 use Rattle.std.proofs.lemmas.Option.{none-some, same_Some}
-use Rattle.port_inbox.specs.declared.entry.Fuse.{Fuse}
+use Rattle.port_model.specs.declared.inbox.entry.Fuse.{Fuse}
 use Rattle.port_model.specs.History.{Expire, PortEvent, PortStep, Put}
 use Rattle.port_model.specs.Laws.{IsFromOutside}
 use Rattle.port_model.specs.Port.{PortState, empty_port, expire_in, put_into}
-use Rattle.port_values.specs.declared.item.Item.{Item}
-use Rattle.port_values.specs.declared.pid.Pid.TheVariants.{Of}
-use Rattle.port_values.specs.declared.value.Value.{Value}
+use Rattle.port_model.specs.declared.values.item.Item.{Item}
+use Rattle.port_model.specs.declared.values.pid.Pid.TheVariants.{Of}
+use Rattle.port_model.specs.declared.values.value.Value.{Value}
 use Rattle.serial_order.proofs.Numbers.{at_change, at_more, eq_is, eq_of, length-change, not_there, there}
 use Rattle.serial_order.proofs.Made.{IsProcess, MakeNext, MakesNext}
 use Rattle.serial_order.specs.RunState.{RunState, after_effect, after_effects, armed, change_at, instance_at, instance_of, sent_to, with_created, with_expiry, with_put}

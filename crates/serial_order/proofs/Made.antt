@@ -2,7 +2,7 @@
 use Rattle.std.proofs.Common.{◌≡◌, ◌∙◌, ◌+◌, ◌||◌, ap, refl, subst, sym, if◌then◌else◌, ℕ, Bool, true, false, IfSome, List, [], ◌∷◌, ◌++◌, Option, None, Some, nat_le, slice_get}
 use Rattle.std.specs.Option.{option_map, option_map_or}
 use Rattle.std.proofs.lemmas.Option.{same_Some}
-use Rattle.port_values.specs.declared.value.Value.{Value}
+use Rattle.port_model.specs.declared.values.value.Value.{Value}
 use Rattle.serial_order.specs.Told.{given_after, given_after_one}
 use Rattle.run_evaluation.specs.declared.identity.Identity.{Identity}
 use Rattle.run_record.specs.Event as event

@@ -1,6 +1,6 @@
 -- The serial order of a run: one list of all that happens (Z.101: agent; Z.102: start, input, output, timer).
 use Rattle.std.specs.Prelude.{◌≡◌, ◌≢◌, ◌⊎◌, ◌+◌, ◌<◌, ◌≤◌, ℕ, Bool, false, List, [], ◌∷◌, ◌++◌, All, Option, None, Some, if◌then◌else◌, length, map, slice_get}
-use Rattle.port_inbox.specs.declared.entry.Fuse.{Fuse}
+use Rattle.port_model.specs.declared.inbox.entry.Fuse.{Fuse}
 use Rattle.port_model.specs.Timers.{IsLeast, earlier}
 use Rattle.serial_order.specs.RunState.{RunState, after_effects, world_at, expired, heard_effects, instance_at, with_instance}
 use Rattle.run_evaluation.specs.declared.identity.Identity.{Identity}

@@ -1,6 +1,6 @@
 -- Laws of the serial order.
 use Rattle.std.specs.Prelude.{◌≡◌, ◌++◌, ℕ, List, All, IfSome}
-use Rattle.port_values.specs.declared.pid.Pid.TheVariants.{Env}
+use Rattle.port_model.specs.declared.values.pid.Pid.TheVariants.{Env}
 use Rattle.run_semantics.specs.Behaves.{AreBehaviours}
 use Rattle.serial_order.specs.Execution.{Execution, Happening}
 use Rattle.serial_order.specs.RunState.{RunState, beginning}

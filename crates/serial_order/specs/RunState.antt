@@ -1,14 +1,14 @@
 -- The whole of a run between two steps (Z.101: system, agent), for any number of instances.
 use Rattle.std.specs.Prelude.{◌&&◌, ◌+◌, ◌==◌, ℕ, zero, suc, nat_le, Bool, true, false, not, List, [], ◌∷◌, ◌++◌, Option, None, Some, count_by, if◌then◌else◌, length, map, slice_get, slice_set}
 use Rattle.std.specs.List.{range_with_len}
-use Rattle.port_inbox.specs.Calls.{after_entry}
-use Rattle.port_inbox.specs.Ends.{single}
-use Rattle.port_inbox.specs.declared.entry.Entry.TheVariants.{Timer}
-use Rattle.port_inbox.specs.declared.entry.Fuse.{Fuse}
+use Rattle.port_model.specs.Calls.{after_entry}
+use Rattle.port_model.specs.Ends.{single}
+use Rattle.port_model.specs.declared.inbox.entry.Entry.TheVariants.{Timer}
+use Rattle.port_model.specs.declared.inbox.entry.Fuse.{Fuse}
 use Rattle.port_model.specs.Port.{empty_port, put_into}
-use Rattle.port_values.specs.declared.item.Item.{Item}
-use Rattle.port_values.specs.declared.pid.Pid.TheVariants.{Null, Of}
-use Rattle.port_values.specs.declared.value.Value.{Value}
+use Rattle.port_model.specs.declared.values.item.Item.{Item}
+use Rattle.port_model.specs.declared.values.pid.Pid.TheVariants.{Null, Of}
+use Rattle.port_model.specs.declared.values.value.Value.{Value}
 use Rattle.run_evaluation.specs.declared.identity.Identity.{Identity}
 use Rattle.sdl_interp.specs.Instance.{InstanceValue, created}
 use Rattle.run_semantics.specs.Effect.{Effect, Arm, Create, Send}

@@ -1,7 +1,7 @@
 -- The fuses that wait, with one more.
 use Rattle.std.proofs.Common.{ℕ, ◌≤◌, Bool, true, false, List, [], ◌∷◌, if◌then◌else◌}
 use Rattle.std.proofs.lemmas.List.Elements.{All-cons, All-head, All-nil, All-tail}
-use Rattle.port_inbox.specs.declared.entry.Fuse.{Fuse}
+use Rattle.port_model.specs.declared.inbox.entry.Fuse.{Fuse}
 use Rattle.serial_order.specs.Execution.{IsNoFuseBefore}
 use Rattle.sdl_timers.specs.DueOrder.{is_before, with_fuse}
 

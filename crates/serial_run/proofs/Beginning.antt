@@ -4,8 +4,8 @@ use Rattle.std.proofs.Common.{All, slice_get, take, subst, refl, ap, ◌∙◌, 
 use Rattle.std.proofs.Common.{append-nil, length-append, add-zero}
 use Rattle.std.specs.List.{range_with_len}
 use Rattle.std.proofs.lemmas.List.Elements.{All-nil}
-use Rattle.port_values.specs.declared.pid.Pid.TheVariants.{Null}
-use Rattle.port_values.specs.declared.value.Value.{Value}
+use Rattle.port_model.specs.declared.values.pid.Pid.TheVariants.{Null}
+use Rattle.port_model.specs.declared.values.value.Value.{Value}
 use Rattle.serial_order.specs.RunState.{living_of, count_living, first_instances, first_of, instance_at, instance_of}
 use Rattle.serial_order.specs.RunState.{least_living}
 use Rattle.serial_run.specs.Serial.{AreInPlace, AreMarked, IsOfSystem, IsSerial}

@@ -3,9 +3,9 @@ use Rattle.std.proofs.Common.{◌≡◌, ◌⊎◌, ◌∙◌, ◌+◌, ◌<◌,
 use Rattle.std.specs.Prelude.{if◌then◌else◌}
 use Rattle.std.specs.List.{AllZip}
 use Rattle.std.proofs.lemmas.List.Elements.{All-head, All-tail}
-use Rattle.run_course.specs.KeptWords.{IsKeptOf}
+use Rattle.port_model.specs.KeptWords.{IsKeptOf}
 use Rattle.run_semantics.specs.Behaves.{AreBehaviours}
-use Rattle.port_inbox.specs.declared.entry.Fuse.{Fuse}
+use Rattle.port_model.specs.declared.inbox.entry.Fuse.{Fuse}
 use Rattle.serial_order.specs.Execution.{Execution, EndsInTransition, Happening, IsNoFuseBefore, IsNoLineBefore, Rests, transitions_of}
 use Rattle.serial_order.specs.RunState.{RunState, beginning, first_instances}
 use Rattle.serial_order.specs.Report.{Closes, Ends}

@@ -1,8 +1,8 @@
 -- A step of an instance is a step of the whole.
 use Rattle.std.proofs.Common.{◌≡◌, ◌≢◌, ◌∙◌, ◌+◌, ◌-◌, ◌<◌, ◌++◌, Bool, true, false, cond, ℕ, suc, List, [], ◌∷◌, Option, None, Some, refl, sym, ap, subst, arith, slice_get, set, length, length-append, map, replicate, append-nil, append_assoc}
 use Rattle.std.specs.Option.{option_map}
-use Rattle.port_inbox.specs.Ends.{OwnerState, single}
-use Rattle.port_inbox.specs.declared.entry.Fuse.{Fuse}
+use Rattle.port_model.specs.Ends.{OwnerState, single}
+use Rattle.port_model.specs.declared.inbox.entry.Fuse.{Fuse}
 use Rattle.port_model.specs.History.{Expire, PortEvent, Put, Take}
 use Rattle.port_model.specs.Laws.{IsFromOutside}
 use Rattle.port_model.specs.Port.{PortState}

@@ -1,7 +1,7 @@
 -- Fuses expire, and lines are heard.
 use Rattle.std.proofs.Common.{◌≡◌, ◌⊎◌, ◌+◌, ◌<◌, ◌≤◌, Bool, true, ℕ, List, [], ◌∷◌, ◌∙◌, Option, inl, inr, refl, sym, ap, subst, arith}
 use Rattle.std.proofs.lemmas.List.Elements.{All-head}
-use Rattle.port_inbox.specs.declared.entry.Fuse.{Fuse}
+use Rattle.port_model.specs.declared.inbox.entry.Fuse.{Fuse}
 use Rattle.sdl_timers.proofs.Thinning.{thins_all}
 use Rattle.sdl_timers.specs.DueOrder.{IsInOrder}
 use Rattle.serial_order.specs.Execution.{Expired, Expires, Heard, Hears, IsNoFuseBefore}

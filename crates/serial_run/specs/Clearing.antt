@@ -1,7 +1,7 @@
 -- Spent fuses that a run hasn't any more: in an execution they expire to no effect, before anything else is done.
 use Rattle.std.proofs.Common.{◌≡◌, ◌⊎◌, ◌∙◌, ◌+◌, ◌<◌, ◌≤◌, ◌==◌, Bool, true, false, ℕ, zero, suc, nat_le, if◌then◌else◌, List, [], ◌∷◌, Option, None, Some, ap, arith, inl, inr, leb-false, leb-true, refl, set, slice_get, subst, sym}
 use Rattle.std.proofs.lemmas.List.Elements.{All-cons, All-head, All-nil, All-weaker}
-use Rattle.port_inbox.specs.declared.entry.Fuse.{Fuse}
+use Rattle.port_model.specs.declared.inbox.entry.Fuse.{Fuse}
 use Rattle.port_model.proofs.Spent.{spent_expires}
 use Rattle.port_model.specs.Port.{PortState, expire_in}
 use Rattle.sdl_timers.proofs.Firing.{no_earlier}

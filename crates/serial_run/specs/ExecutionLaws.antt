@@ -1,6 +1,6 @@
 -- Executions join, and so does how far a run goes: laws that the sweeps ask of instances.
 use Rattle.std.proofs.Common.{◌≡◌, ◌+◌, ℕ, List, [], ◌∷◌, ◌++◌, None, Option, Some, refl, inl, inr, ap, ◌∙◌, sym, subst, append_assoc, append-nil, arith}
-use Rattle.run_course.specs.KeptWords.{Notes, with_all}
+use Rattle.port_model.specs.KeptWords.{Notes, with_all}
 use Rattle.run_semantics.specs.Behaves.{AreBehaviours}
 use Rattle.serial_order.specs.Execution.{Execution, EndsInTransition, Follows, Happening, IsTransition, begins, goes, transitions_of, transitions_of_one}
 use Rattle.serial_order.specs.RunState.{RunState}

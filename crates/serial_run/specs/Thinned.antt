@@ -1,6 +1,6 @@
 -- The whole without some fuses that have no effect any more.
 use Rattle.std.specs.Prelude.{◌≡◌, Bool, false, List, Option, None, Some}
-use Rattle.port_inbox.specs.declared.entry.Fuse.{Fuse}
+use Rattle.port_model.specs.declared.inbox.entry.Fuse.{Fuse}
 use Rattle.port_model.specs.Port.{is_spent}
 use Rattle.sdl_interp.specs.Instance.{InstanceValue}
 use Rattle.sdl_timers.specs.DueOrder.{IsInOrder}

@@ -1,6 +1,6 @@
 -- Whose events a serial run has told, one after the other, as far as that is kept.
 use Rattle.std.specs.Prelude.{◌≡◌, ◌-◌, ℕ, List, [], ◌∷◌, ◌++◌, Option, Some, length, replicate}
-use Rattle.run_course.specs.KeptWords.{IsKeptOf, NotesAll}
+use Rattle.port_model.specs.KeptWords.{IsKeptOf, NotesAll}
 use Rattle.run_record.specs.declared.record.Report.{Report}
 use Rattle.run_semantics.specs.Effect.{events_of}
 use Rattle.sdl_interp.specs.Instance.{InstanceValue}

@@ -3,7 +3,7 @@
 use Rattle.std.proofs.Common.{◌≡◌, ◌+◌, ◌<◌, ◌≤◌, Bool, true, false, ℕ, min, nat_le, List, [], ◌∷◌, ◌++◌, Some, All, ap, arith, inl, inr, leb-false, leb-true, length, map, refl, subst, sym}
 use Rattle.std.proofs.lemmas.List.Elements.{All-head, All-map, All-nil, Contains-get_or}
 use Rattle.std.specs.Prelude.{Contains}
-use Rattle.port_inbox.specs.declared.entry.Fuse.{Fuse}
+use Rattle.port_model.specs.declared.inbox.entry.Fuse.{Fuse}
 use Rattle.port_model.specs.Timers.{IsLeast, earlier}
 use Rattle.sdl_script.specs.declared.script.ScriptLine.{ScriptLine}
 use Rattle.sdl_timers.specs.DueOrder.{IsInOrder}

@@ -13,8 +13,7 @@ ghost use Rattle.serial_sweeps.specs.Sweeps.{Moment, at_agenda};
 
 use crate::instances::Instances;
 use crate::world::{Effect, Effects};
-use port_inbox::{Alone, Fuse};
-use port_values::{Item, Pid, Values};
+use port_model::{Alone, Fuse, Item, Pid, Values};
 use run_evaluation::Identity;
 use sdl_interp::Instance;
 use sdl_script::ScriptLine;

@@ -7,8 +7,7 @@ ghost use Rattle.serial_run.specs.Serial.{IsSerial};
 ghost use Rattle.sdl_interp.specs.Instance.{IsAtRest, IsClosed};
 
 use crate::world::Living;
-use port_inbox::Alone;
-use port_values::{Pid, Values};
+use port_model::{Alone, Pid, Values};
 use run_record::Record;
 use sdl_interp::Instance;
 use sdl_system::{Process, ProcessId, System};

@@ -1,6 +1,6 @@
 //! Who hears how far a run is while it goes on.
 
-use port_values::Ticks;
+use port_model::Ticks;
 
 /// A listener. Nothing of a run depends on it.
 pub trait Listener: Drop {

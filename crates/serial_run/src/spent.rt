@@ -1,7 +1,7 @@
 //! Which fuses have no effect any more.
 
 use crate::instances::Instances;
-use port_inbox::Fuse;
+use port_model::Fuse;
 use sdl_timers::SpentFuses;
 
 impl<'s> SpentFuses for Instances<'s> {

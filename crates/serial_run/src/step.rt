@@ -10,7 +10,7 @@ ghost use Rattle.serial_sweeps.specs.declared.instance_set.Made.TheVariants.{Tra
 
 use crate::instances::Instances;
 use crate::world::{Effects, SerialWorld};
-use run_course::KeptWords;
+use port_model::KeptWords;
 use sdl_interp::{Ahead, Position, Stepped};
 use serial_sweeps::{Agenda, Made};
 use std::alloc::{AllocError, Global};

@@ -1,7 +1,7 @@
 -- Moments: what stays, the next time, and what is due.
 use Rattle.std.proofs.Common.{◌≡◌, ◌∙◌, ◌+◌, ◌-◌, ◌<◌, ◌≤◌, Bool, true, ℕ, List, [], ◌∷◌, Option, None, Some, refl, ap, arith, map, slice_get, All, min}
 use Rattle.std.proofs.lemmas.List.Elements.{All-cons, All-contains, All-head, All-map, All-nil, All-tail}
-use Rattle.port_inbox.specs.declared.entry.Fuse.{Fuse}
+use Rattle.port_model.specs.declared.inbox.entry.Fuse.{Fuse}
 use Rattle.port_model.specs.Timers.{IsLeast, earlier}
 use Rattle.sdl_script.specs.declared.script.ScriptLine.{ScriptLine}
 use Rattle.serial_sweeps.specs.Sweeps.{IsNextTime, IsNoFuseBefore, IsNoLineBefore, IsNothingDue, KeepsTime, moment_of, next_line, until_of}

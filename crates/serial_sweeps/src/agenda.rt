@@ -3,7 +3,7 @@
 ghost use Rattle.std.specs.Prelude.{◌≡◌, []};
 
 use crate::ready_set::ReadySet;
-use port_values::Ticks;
+use port_model::Ticks;
 use sdl_timers::Wheel;
 use std::alloc::Global;
 

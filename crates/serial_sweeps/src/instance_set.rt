@@ -3,7 +3,7 @@
 ghost use Rattle.std.specs.Prelude.{◌≡◌, ◌+◌, ◌<◌, ◌≤◌, ◌⊎◌, ◌∷◌, ℕ, List, Contains, IfOk, IsTrue, OnOk, length};
 
 use crate::agenda::Agenda;
-use port_inbox::Fuse;
+use port_model::Fuse;
 use sdl_script::ScriptLine;
 use std::alloc::Global;
 

@@ -5,7 +5,7 @@ ghost use Rattle.serial_sweeps.specs.Sweeps.{IsNextTime, IsNoFuseBefore, IsNoLin
 
 use crate::instance_set::InstanceSet;
 use crate::scheduler::Scheduler;
-use port_values::Ticks;
+use port_model::Ticks;
 use std::alloc::Global;
 
 impl<'s> Scheduler<'s> {

@@ -2,8 +2,8 @@
 use Rattle.std.proofs.Common.{◌≡◌, ◌∙◌, ◌⊎◌, ◌<◌, ◌+◌, ap, arith, cond, get_or, inl, inr, length, refl, sym, ⊎_elim, ℕ, suc, Bool, true, false, List, [], ◌∷◌}
 use Rattle.std.proofs.lemmas.List.Elements.{All-contains}
 use Rattle.std.proofs.lemmas.List.Sums.{sum_by-cons}
-use Rattle.port_values.specs.Same.{same_pid, same_pid-Decides}
-use Rattle.port_values.specs.declared.pid.Pid.TheVariants.{Of}
+use Rattle.port_model.specs.Same.{same_pid, same_pid-Decides}
+use Rattle.port_model.specs.declared.values.pid.Pid.TheVariants.{Of}
 use Rattle.run_record.specs.Record.{RecordValue}
 use Rattle.run_semantics.specs.Sent.{sent_to}
 use Rattle.settle_checks.specs.Account.{ArePutAlong, ArePutToBorn, IsAllPut, IsPutToOne}

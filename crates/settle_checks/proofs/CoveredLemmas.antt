@@ -3,8 +3,8 @@ use Rattle.std.proofs.Common.{◌≡◌, ◌<◌, ◌≤◌, ◌+◌, ◌-◌, a
 use Rattle.std.specs.Prelude.{IfSome, IsPermutation}
 use Rattle.std.proofs.lemmas.List.Sorted.{sum_by-IsPermutation}
 use Rattle.std.proofs.lemmas.List.Sums.{sum_by_more}
-use Rattle.port_values.specs.declared.item.SignalId.{SignalId}
-use Rattle.port_values.specs.declared.pid.Pid.{Pid}
+use Rattle.port_model.specs.declared.values.item.SignalId.{SignalId}
+use Rattle.port_model.specs.declared.values.pid.Pid.{Pid}
 use Rattle.settle_checks.specs.Crossings.{Covers, Uses, crossed, is_on}
 use Rattle.settle_checks.specs.declared.summing.crossings.Crossing.{Crossing}
 use Rattle.settle_checks.specs.declared.summing.crossings.Way.{Way}

@@ -2,7 +2,7 @@
 use Rattle.std.proofs.Common.{◌≡◌, ◌∙◌, ◌<◌, ◌+◌, ◌-◌, ap, append_assoc, arith, length, refl, subst, sym, ℕ, zero, suc, List, [], ◌∷◌, ◌++◌}
 use Rattle.std.specs.Prelude.{IsPermutation}
 use Rattle.std.proofs.lemmas.List.{length-append, length_push}
-use Rattle.port_values.specs.declared.pid.Pid.TheVariants.{Null}
+use Rattle.port_model.specs.declared.values.pid.Pid.TheVariants.{Null}
 use Rattle.run_evaluation.specs.declared.identity.Identity.{Identity}
 use Rattle.run_record.specs.Record.{RecordValue}
 use Rattle.sdl_system.specs.System.{SystemValue}

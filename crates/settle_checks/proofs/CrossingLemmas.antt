@@ -3,7 +3,7 @@ use Rattle.std.proofs.Common.{◌≡◌, ◌∙◌, ◌<◌, ◌≤◌, ◌+◌,
 use Rattle.std.specs.List.{flat_map}
 use Rattle.std.proofs.lemmas.List.{map_more, take_all, take_more}
 use Rattle.std.proofs.lemmas.List.Concat.{flat_map-append}
-use Rattle.port_values.specs.declared.pid.Pid.{Pid}
+use Rattle.port_model.specs.declared.values.pid.Pid.{Pid}
 use Rattle.settle_checks.specs.Crossings.{crossing_in, crossing_out}
 use Rattle.settle_checks.specs.declared.summing.crossings.Crossing.{Crossing}
 use Rattle.settle_checks.specs.declared.summing.flows.Flow.{Flow}

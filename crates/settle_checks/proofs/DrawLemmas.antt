@@ -8,17 +8,17 @@ use Rattle.input_port.specs.Ends.{HeldState}
 use Rattle.input_port.specs.Held.{GatherHereIs, GathersHere, HasDrawnHere}
 use Rattle.port_model.specs.declared.error.PortError.{PortError}
 use Rattle.port_model.specs.declared.refused.Refused.{Refused}
-use Rattle.port_queue.specs.Calls.{DrainIs}
+use Rattle.input_port.specs.QueueCalls.{DrainIs}
 use Rattle.std.proofs.Common.{Result, Ok, Err}
 use Rattle.std.specs.Prelude.{is_err}
-use Rattle.port_inbox.proofs.Alive.{after_draws-alive}
-use Rattle.port_inbox.specs.Calls.{HasDrawn, after_draw, after_draws}
-use Rattle.port_inbox.specs.Ends.{OwnerState, is_signal}
-use Rattle.port_inbox.specs.Put.{StartsWith}
-use Rattle.port_inbox.specs.declared.placed.Placed.{Placed}
+use Rattle.port_model.proofs.Alive.{after_draws-alive}
+use Rattle.port_model.specs.Calls.{HasDrawn, after_draw, after_draws}
+use Rattle.port_model.specs.Ends.{OwnerState, is_signal}
+use Rattle.port_model.specs.Put.{StartsWith}
+use Rattle.port_model.specs.declared.inbox.placed.Placed.{Placed}
 use Rattle.port_model.specs.Port.{PortState}
-use Rattle.port_queue.specs.Calls.{Gathers}
-use Rattle.port_queue.specs.Ends.{SenderState, sent_by}
+use Rattle.input_port.specs.QueueCalls.{Gathers}
+use Rattle.input_port.specs.QueueEnds.{SenderState, sent_by}
 use Rattle.threads_ports.proofs.Signals.{count_by-signals}
 use Rattle.settle_checks.specs.Gathering.{Draws, LateIsNothing}
 

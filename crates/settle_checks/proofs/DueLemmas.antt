@@ -3,10 +3,10 @@ use Rattle.std.proofs.Common.{◌≡◌, ◌∙◌, ap, cond, refl, subst, sym, 
 use Rattle.std.specs.BTreeMap.{BTreeMap, Updates, is_at}
 use Rattle.port_model.specs.Timers.{key_order, same_key}
 use Rattle.port_model.specs.declared.got.Got as got
-use Rattle.port_values.specs.contracts.timer_key.TimerKeyOrd.TheImpl.Laws.{matches_eq-law}
-use Rattle.port_values.specs.declared.item.SignalId.{SignalId}
-use Rattle.port_values.specs.declared.timer_key.TimerKey.{TimerKey}
-use Rattle.port_values.specs.declared.value.Value.{Value}
+use Rattle.port_model.specs.contracts.values.timer_key.TimerKeyOrd.TheImpl.Laws.{matches_eq-law}
+use Rattle.port_model.specs.declared.values.item.SignalId.{SignalId}
+use Rattle.port_model.specs.declared.values.timer_key.TimerKey.{TimerKey}
+use Rattle.port_model.specs.declared.values.value.Value.{Value}
 use Rattle.run_record.specs.Entry.{event_of}
 use Rattle.run_record.specs.Event as event
 use Rattle.run_record.specs.Event.{Event}

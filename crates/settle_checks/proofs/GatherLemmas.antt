@@ -5,8 +5,8 @@ use Rattle.std.proofs.lemmas.Bool.{cases_eq, ne_eqb, true≢false}
 use Rattle.std.proofs.lemmas.List.{get_or-set_other, get_or-set_same, get_or_default, length-set}
 use Rattle.std.specs.declared.alloc.Global.{Global}
 use Rattle.crossbeam_queue.specs.SegTies.{SegId}
-use Rattle.port_queue.specs.Ends.{SenderState}
-use Rattle.port_values.specs.declared.item.Item.{Item}
+use Rattle.input_port.specs.QueueEnds.{SenderState}
+use Rattle.port_model.specs.declared.values.item.Item.{Item}
 use Rattle.run_record.specs.Record.{RecordValue}
 use Rattle.settle_checks.proofs.AccountPutLemmas.{rising_apart}
 use Rattle.settle_checks.specs.Account.{AllAt, AreCountsOf, HavePut, IsCountOf}

@@ -5,13 +5,13 @@ use Rattle.std.proofs.lemmas.List.Elements.{All-cons, All-head, All-nil, All-tai
 use Rattle.input_port.proofs.Counting.{counts_tell}
 use Rattle.input_port.specs.Counts as counts
 use Rattle.input_port.specs.Counts.{AllIsDrawn, Flow, FlowsInto, IsOfOne, sent_by, signals_in}
-use Rattle.port_inbox.specs.Ends.{is_signal}
-use Rattle.port_inbox.specs.Put.{Apart}
-use Rattle.port_inbox.specs.declared.placed.Gone.{Gone}
-use Rattle.port_inbox.specs.declared.placed.Placed.{Placed}
-use Rattle.port_values.specs.Same.{same_pid, same_pid-Decides}
-use Rattle.port_values.specs.declared.item.Item.{Item}
-use Rattle.port_values.specs.declared.pid.Pid.{Pid}
+use Rattle.port_model.specs.Ends.{is_signal}
+use Rattle.port_model.specs.Put.{Apart}
+use Rattle.port_model.specs.declared.inbox.placed.Gone.{Gone}
+use Rattle.port_model.specs.declared.inbox.placed.Placed.{Placed}
+use Rattle.port_model.specs.Same.{same_pid, same_pid-Decides}
+use Rattle.port_model.specs.declared.values.item.Item.{Item}
+use Rattle.port_model.specs.declared.values.pid.Pid.{Pid}
 use Rattle.settle_checks.specs.Gathering.{AllIsPut, AreHeld, AreOwn, Given, IsOfPlace, numbers_given, numbers_of, put_by_all}
 
 -- ---- numbers that differ

@@ -2,13 +2,13 @@
 use Rattle.std.proofs.Common.{◌≡◌, ◌∙◌, ◌<◌, ◌≤◌, ◌+◌, ap, append_assoc, arith, length, refl, subst, sym, ⊎_elim, ℕ, List, [], ◌∷◌, ◌++◌, count_by}
 use Rattle.std.proofs.lemmas.Bool.{cases_lt}
 use Rattle.input_port.specs.Counts.{signals_in}
-use Rattle.port_inbox.specs.Ends.{OwnerState, is_signal}
-use Rattle.port_inbox.specs.Put.{Apart, StartsWith, of}
-use Rattle.port_inbox.specs.declared.placed.Gone.{Gone}
-use Rattle.port_inbox.specs.declared.placed.Placed.{Placed}
-use Rattle.port_queue.proofs.PutLists.{of-append}
-use Rattle.port_queue.specs.Ends.{SenderState, signals_by}
-use Rattle.port_values.specs.declared.item.Item.{Item}
+use Rattle.port_model.specs.Ends.{OwnerState, is_signal}
+use Rattle.port_model.specs.Put.{Apart, StartsWith, of}
+use Rattle.port_model.specs.declared.inbox.placed.Gone.{Gone}
+use Rattle.port_model.specs.declared.inbox.placed.Placed.{Placed}
+use Rattle.input_port.proofs.PutLists.{of-append}
+use Rattle.input_port.specs.QueueEnds.{SenderState, signals_by}
+use Rattle.port_model.specs.declared.values.item.Item.{Item}
 use Rattle.threads_ports.proofs.Signals.{count_by-signals, signals_in-append}
 use Rattle.threads_ports.specs.Peers.{put_by}
 use Rattle.settle_checks.proofs.DrawLemmas.{DrawsMore, TakesIn, draws_more, draws_none}

@@ -2,7 +2,7 @@
 use Rattle.std.proofs.Common.{◌≡◌, ◌∙◌, ◌⊎◌, ◌<◌, ◌≤◌, ◌+◌, ap, arith, cond, get_or, inl, inr, length, nat_eq, refl, subst, take, ⊎_elim, ℕ, Bool, true, false, List, [], ◌∷◌, ◌++◌}
 use Rattle.std.specs.Prelude.{map}
 use Rattle.std.proofs.lemmas.List.{length-append, map-append, take_all, take_more}
-use Rattle.port_values.specs.declared.item.Item.{Item}
+use Rattle.port_model.specs.declared.values.item.Item.{Item}
 use Rattle.run_record.specs.Record.{RecordValue}
 use Rattle.sdl_script.specs.declared.script.ScriptSignal.{ScriptSignal}
 use Rattle.sdl_system.specs.declared.route.Target.{Target}

@@ -7,11 +7,11 @@ use Rattle.std.proofs.lemmas.List.Elements.{filter-append}
 use Rattle.std.proofs.lemmas.List.Sums.{sum_by-append, sum_by-cons}
 use Rattle.port_model.specs.declared.got.Got as got
 use Rattle.port_model.specs.declared.got.Got.TheVariants as came
-use Rattle.port_values.specs.Same.{same_pid}
-use Rattle.port_values.specs.declared.item.Item.{Item}
-use Rattle.port_values.specs.declared.item.SignalId.{SignalId}
-use Rattle.port_values.specs.declared.pid.Pid.{Pid}
-use Rattle.port_values.specs.declared.pid.Pid.TheVariants.{Of}
+use Rattle.port_model.specs.Same.{same_pid}
+use Rattle.port_model.specs.declared.values.item.Item.{Item}
+use Rattle.port_model.specs.declared.values.item.SignalId.{SignalId}
+use Rattle.port_model.specs.declared.values.pid.Pid.{Pid}
+use Rattle.port_model.specs.declared.values.pid.Pid.TheVariants.{Of}
 use Rattle.run_record.specs.Event as event
 use Rattle.run_record.specs.Event.{Event}
 use Rattle.run_semantics.specs.Sent.{sent_by_one}

@@ -6,9 +6,9 @@ use Rattle.std.specs.Cmp.{unsigned_ties}
 use Rattle.std.specs.Ordering.{nat_cmp}
 use Rattle.std.proofs.lemmas.List.{take_all}
 use Rattle.std.proofs.lemmas.List.Sums.{sum_by_more}
-use Rattle.port_values.specs.Same.{same_pid}
-use Rattle.port_values.specs.declared.pid.Pid.{Pid}
-use Rattle.port_values.specs.declared.pid.Pid.TheVariants.{Env, Null, Of}
+use Rattle.port_model.specs.Same.{same_pid}
+use Rattle.port_model.specs.declared.values.pid.Pid.{Pid}
+use Rattle.port_model.specs.declared.values.pid.Pid.TheVariants.{Env, Null, Of}
 use Rattle.settle_checks.specs.Flows.{is_with}
 use Rattle.settle_checks.specs.Totals.{AreTotals, IsOneMore, Table, total}
 use Rattle.settle_checks.specs.declared.summing.flows.Flow.{Flow}

@@ -3,8 +3,8 @@ use Rattle.std.specs.Prelude.{◌≡◌, ◌+◌, ◌<◌, ◌≤◌, ℕ, List,
 use Rattle.std.specs.declared.alloc.Global.{Global}
 use Rattle.crossbeam_queue.specs.SegTies.{SegId}
 use Rattle.input_port.specs.Ends.{HeldState}
-use Rattle.port_inbox.specs.Ends.{OwnerState}
-use Rattle.port_values.specs.declared.item.Item.{Item}
+use Rattle.port_model.specs.Ends.{OwnerState}
+use Rattle.port_model.specs.declared.values.item.Item.{Item}
 use Rattle.run_record.specs.Record.{RecordValue}
 use Rattle.run_semantics.specs.World.{most_instances}
 use Rattle.sdl_script.specs.declared.script.ScriptLine.{ScriptLine}
@@ -24,7 +24,7 @@ use Rattle.settle_meaning.specs.Times.{AreRisingFrom, sends}
 use Rattle.settle_checks.specs.declared.summing.creating.Birth.{Birth}
 use Rattle.settle_checks.specs.declared.summing.flows.Flow.{Flow}
 use Rattle.input_port.specs.Counts.{signals_in}
-use Rattle.port_values.specs.declared.pid.Pid.TheVariants.{Env, Of}
+use Rattle.port_model.specs.declared.values.pid.Pid.TheVariants.{Env, Of}
 use Rattle.threads_ports.specs.Peers.{ArePeers, ArePeersOf, PeersState, put_to}
 
 -- ---- places

@@ -1,8 +1,8 @@
 -- No more signals are taken than were sent by then (Z.102: input, output).
 use Rattle.std.specs.Prelude.{◌==◌, ◌&&◌, ◌≤◌, ℕ, Bool, List, count_by, nat_le}
-use Rattle.port_values.specs.Same.{same_pid}
-use Rattle.port_values.specs.declared.item.SignalId.{SignalId}
-use Rattle.port_values.specs.declared.pid.Pid.{Pid}
+use Rattle.port_model.specs.Same.{same_pid}
+use Rattle.port_model.specs.declared.values.item.SignalId.{SignalId}
+use Rattle.port_model.specs.declared.values.pid.Pid.{Pid}
 use Rattle.run_record.specs.Record.{RecordValue}
 use Rattle.settle_meaning.specs.Order.{AreTakenAfter}
 use Rattle.settle_meaning.specs.OrderLaws.{AreTimesFrom, by_time}

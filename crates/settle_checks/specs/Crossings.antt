@@ -1,10 +1,10 @@
 -- Signals on their way, counted (Z.102: input, output).
 use Rattle.std.specs.Prelude.{◌≡◌, ◌==◌, ◌&&◌, ◌+◌, ◌≤◌, ℕ, Bool, List, [], ◌∷◌, if◌then◌else◌, nat_le}
 use Rattle.std.specs.List.{sum_by}
-use Rattle.port_values.specs.Same.{same_pid}
-use Rattle.port_values.specs.declared.item.SignalId.{SignalId}
-use Rattle.port_values.specs.declared.pid.Pid.{Pid}
-use Rattle.port_values.specs.declared.pid.Pid.TheVariants.{Of}
+use Rattle.port_model.specs.Same.{same_pid}
+use Rattle.port_model.specs.declared.values.item.SignalId.{SignalId}
+use Rattle.port_model.specs.declared.values.pid.Pid.{Pid}
+use Rattle.port_model.specs.declared.values.pid.Pid.TheVariants.{Of}
 use Rattle.settle_checks.specs.declared.summing.crossings.Crossing.{Crossing}
 use Rattle.settle_checks.specs.declared.summing.crossings.Way.{Way}
 use Rattle.settle_checks.specs.declared.summing.flows.Flow.{Flow}

@@ -4,7 +4,7 @@ use Rattle.std.specs.BTreeMap.{is_at}
 use Rattle.std.specs.Map.{lookup}
 use Rattle.port_model.specs.Timers.{key_order, same_key}
 use Rattle.port_model.specs.declared.got.Got.{Got}
-use Rattle.port_values.specs.declared.timer_key.TimerKey.{TimerKey}
+use Rattle.port_model.specs.declared.values.timer_key.TimerKey.{TimerKey}
 use Rattle.run_record.specs.Event.{Event}
 use Rattle.settle_meaning.specs.Timers.{IsDue, IsGotDue, due_after, due_left}
 

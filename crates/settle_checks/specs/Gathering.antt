@@ -1,13 +1,13 @@
 -- Ports that gather the senders of all places, by ascending places (Z.101: input port).
 use Rattle.std.specs.Prelude.{◌≡◌, ◌<◌, ◌≤◌, ◌+◌, ℕ, true, false, List, [], ◌∷◌, ◌++◌, All, length, map, count_by}
 use Rattle.input_port.specs.Counts.{sent_by, signals_in}
-use Rattle.port_inbox.specs.Calls.{after_draws}
-use Rattle.port_inbox.specs.Ends.{OwnerState, is_signal}
-use Rattle.port_inbox.specs.Put.{Apart, of}
-use Rattle.port_inbox.specs.declared.placed.Gone.{Gone}
-use Rattle.port_inbox.specs.declared.placed.Placed.{Placed}
-use Rattle.port_values.specs.declared.item.Item.{Item}
-use Rattle.port_values.specs.declared.pid.Pid.{Pid}
+use Rattle.port_model.specs.Calls.{after_draws}
+use Rattle.port_model.specs.Ends.{OwnerState, is_signal}
+use Rattle.port_model.specs.Put.{Apart, of}
+use Rattle.port_model.specs.declared.inbox.placed.Gone.{Gone}
+use Rattle.port_model.specs.declared.inbox.placed.Placed.{Placed}
+use Rattle.port_model.specs.declared.values.item.Item.{Item}
+use Rattle.port_model.specs.declared.values.pid.Pid.{Pid}
 
 -- ---- places that have put nothing
 

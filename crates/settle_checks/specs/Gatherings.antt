@@ -1,6 +1,6 @@
 -- Ports that gather their senders, record by record, while one place after the other is gathered (Z.101: input port).
 use Rattle.std.specs.Prelude.{◌≡◌, ◌<◌, ◌≤◌, ℕ, List, length, slice_index_or}
-use Rattle.port_values.specs.declared.item.Item.{Item}
+use Rattle.port_model.specs.declared.values.item.Item.{Item}
 use Rattle.run_record.specs.Record.{RecordValue}
 use Rattle.settle_checks.specs.Account.{AllAt}
 use Rattle.settle_checks.specs.Gathering.{GatheringState, PutNothing}

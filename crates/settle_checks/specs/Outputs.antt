@@ -1,6 +1,6 @@
 -- How many signals a record sends to each instance, and whether as many were put (Z.102: output, create).
 use Rattle.std.specs.Prelude.{◌≡◌, ◌==◌, ◌≤◌, ◌<◌, ◌+◌, ◌⊎◌, ℕ, Bool, true, false, List, [], ◌∷◌, ◌++◌, None, Some, IsSomeAnd, if◌then◌else◌, length, map, slice_index_or}
-use Rattle.port_values.specs.declared.item.Item.{Item}
+use Rattle.port_model.specs.declared.values.item.Item.{Item}
 use Rattle.run_record.specs.Event as event
 use Rattle.run_record.specs.Event.{Event}
 use Rattle.run_record.specs.Record.{RecordValue}

@@ -1,6 +1,6 @@
 -- When instances start, by births.
 use Rattle.std.specs.Prelude.{◌≡◌, ◌<◌, ℕ, List, All, MatchOption, Option}
-use Rattle.port_values.specs.declared.pid.Pid.TheVariants.{Null}
+use Rattle.port_model.specs.declared.values.pid.Pid.TheVariants.{Null}
 use Rattle.run_record.specs.Record.{RecordValue}
 use Rattle.settle_meaning.specs.Starts.{StartsAt}
 use Rattle.settle_checks.specs.declared.summing.creating.Birth.{Birth}

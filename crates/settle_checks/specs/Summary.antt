@@ -3,7 +3,7 @@ use Rattle.std.specs.Prelude.{◌≡◌, ◌≤◌, ◌⊎◌, ℕ, Bool, true, 
 use Rattle.std.specs.List.{AllZip, flat_map, list_any}
 use Rattle.port_model.specs.declared.got.Got as got
 use Rattle.port_model.specs.declared.got.Got.TheVariants as came
-use Rattle.port_values.specs.declared.pid.Pid.TheVariants.{Of}
+use Rattle.port_model.specs.declared.values.pid.Pid.TheVariants.{Of}
 use Rattle.run_evaluation.specs.declared.identity.Identity.{Identity}
 use Rattle.run_record.specs.Event as event
 use Rattle.run_record.specs.Event.{Event, is_beginning}

@@ -4,7 +4,7 @@ ghost use Rattle.std.specs.Prelude.{◌≡◌, Some};
 ghost use Rattle.port_model.specs.Timers.{earlier};
 ghost use Rattle.settle_meaning.specs.Living as meaning;
 
-use port_values::Pid;
+use port_model::Pid;
 
 /// Whether it is no instance.
 pub fn is_null(pid: Pid) -> bool

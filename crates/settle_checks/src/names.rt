@@ -6,7 +6,7 @@ ghost use Rattle.settle_checks.specs.Outputs.{AreNamed};
 ghost use Rattle.settle_meaning.specs.Puts.{Heard, signals_heard, signals_of};
 
 use crate::numbers::MOST_INSTANCES;
-use port_values::{Pid, Value};
+use port_model::{Pid, Value};
 use sdl_script::{ScriptLine, ScriptSignal};
 use sdl_system::Dest;
 use std::alloc::{AllocError, Global};

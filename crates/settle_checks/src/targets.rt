@@ -6,7 +6,7 @@ ghost use Rattle.settle_checks.specs.Events.{IsProcessOf};
 ghost use Rattle.settle_meaning.specs.Living.{AreLiving, GoesBy};
 
 use crate::living::least_of;
-use port_values::SignalId;
+use port_model::SignalId;
 use run_record::Record;
 use sdl_system::{Dest, ProcessId, Source, System, Target};
 

@@ -7,15 +7,15 @@ use Rattle.std.proofs.lemmas.List.Elements.{All-nil}
 use Rattle.std.specs.declared.alloc.Global.{Global}
 use Rattle.crossbeam_queue.specs.SegTies.{SegId}
 use Rattle.input_port.specs.Held.{IsKept}
-use Rattle.port_inbox.specs.Calls.{after_draws}
-use Rattle.port_inbox.specs.Ends.{OwnerState}
+use Rattle.port_model.specs.Calls.{after_draws}
+use Rattle.port_model.specs.Ends.{OwnerState}
 use Rattle.port_model.specs.History.{IsLegal, PortEvent, Take}
 use Rattle.port_model.specs.Port.{PortState, empty_port}
 use Rattle.port_model.specs.declared.selection.Class.{Class}
 use Rattle.port_model.specs.declared.taken.Taken.TheVariants.{Nothing}
-use Rattle.port_values.specs.declared.item.Item.{Item}
-use Rattle.port_values.specs.declared.pid.Pid.TheVariants.{Of}
-use Rattle.port_values.specs.declared.value.Value.{Value}
+use Rattle.port_model.specs.declared.values.item.Item.{Item}
+use Rattle.port_model.specs.declared.values.pid.Pid.TheVariants.{Of}
+use Rattle.port_model.specs.declared.values.value.Value.{Value}
 use Rattle.run_evaluation.specs.declared.identity.Identity.{Identity}
 use Rattle.run_evaluation.specs.declared.store.Store.{Store}
 use Rattle.run_record.specs.Event as event

@@ -2,9 +2,9 @@
 use Rattle.std.specs.Prelude.{◌≡◌, ◌++◌, ℕ, Bool, true, IsTrue, List, Option, count_by}
 use Rattle.std.specs.declared.alloc.Global.{Global}
 use Rattle.crossbeam_queue.specs.SegTies.{SegId}
-use Rattle.port_inbox.specs.Ends.{OwnerState}
-use Rattle.port_values.specs.declared.value.Value.{Value}
-use Rattle.run_course.specs.declared.course_log.CourseLog.{CourseLog}
+use Rattle.port_model.specs.Ends.{OwnerState}
+use Rattle.port_model.specs.declared.values.value.Value.{Value}
+use Rattle.port_model.specs.declared.course.course_log.CourseLog.{CourseLog}
 use Rattle.run_record.specs.Event.{Event, is_beginning}
 use Rattle.run_record.specs.Record.{RecordValue}
 use Rattle.run_semantics.specs.ControlPoint.{Definition}

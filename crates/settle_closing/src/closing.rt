@@ -6,7 +6,7 @@ ghost use Rattle.settle_closing.specs.PortThen.{then_of};
 
 use crate::ending::PortThen;
 use input_port::Held;
-use run_course::CourseLog;
+use port_model::CourseLog;
 use run_record::Record;
 use std::marker::Model;
 use std::sync::Wait;

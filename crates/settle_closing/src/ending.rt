@@ -1,7 +1,7 @@
 //! Whether a record closes as it is to, once all is drawn that was put.
 
 ghost use Rattle.std.specs.Prelude.{◌≡◌, ◌↔◌, IsTrue};
-ghost use Rattle.port_inbox.specs.Ends.{OwnerState};
+ghost use Rattle.port_model.specs.Ends.{OwnerState};
 ghost use Rattle.run_record.specs.Told.{event_told};
 ghost use Rattle.settle_closing.specs.History.{EndsAs, RestsStill};
 ghost use Rattle.settle_closing.specs.PortThen.{then_of};
@@ -9,7 +9,7 @@ ghost use Rattle.settle_meaning.specs.Closed.{AreDueAfter, EndsIn, IsEnd};
 ghost use Rattle.settle_meaning.specs.Living as living;
 
 use input_port::Held;
-use port_values::Ticks;
+use port_model::Ticks;
 use run_record::{Entry, Record, Told};
 use std::sync::Wait;
 

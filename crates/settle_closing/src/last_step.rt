@@ -11,7 +11,7 @@ ghost use Rattle.threads_shared.specs.Noting.{StepsAt};
 
 use crate::closing::Closing;
 use input_port::Held;
-use port_values::Ticks;
+use port_model::Ticks;
 use run_record::RunError;
 use sdl_interp::Stepped;
 use std::sync::Wait;

@@ -2,17 +2,17 @@
 use Rattle.std.proofs.Common.{◌≡◌, ◌∙◌, ◌==◌, ◌+◌, ap, arith, cond, refl, sym, ℕ, Bool, true, false, List, [], ◌∷◌, ◌++◌, All, count_by, nat_le, ◌&&◌}
 use Rattle.std.proofs.lemmas.List.Elements.{All-append, All-cons, All-nil}
 use Rattle.std.proofs.lemmas.List.Sums.{sum_by-append, sum_by-cons}
-use Rattle.port_inbox.specs.Calls.{after_draws, after_entry}
-use Rattle.port_inbox.specs.Ends.{is_signal, is_signal_entry}
-use Rattle.port_inbox.specs.declared.entry.Entry.{Entry}
-use Rattle.port_inbox.specs.declared.entry.Entry.TheVariants.{Signal, Timer}
-use Rattle.port_inbox.specs.declared.placed.Placed.{Placed}
+use Rattle.port_model.specs.Calls.{after_draws, after_entry}
+use Rattle.port_model.specs.Ends.{is_signal, is_signal_entry}
+use Rattle.port_model.specs.declared.inbox.entry.Entry.{Entry}
+use Rattle.port_model.specs.declared.inbox.entry.Entry.TheVariants.{Signal, Timer}
+use Rattle.port_model.specs.declared.inbox.placed.Placed.{Placed}
 use Rattle.port_model.specs.History.{Expire, PortEvent, Put, Reset, Set, Stop, Take}
 use Rattle.port_model.specs.Port.{PortState, expire_in, put_into}
 use Rattle.port_model.specs.Timers.{is_running, with_waiting}
 use Rattle.port_model.specs.declared.got.Got.TheVariants as got
-use Rattle.port_values.specs.declared.item.Item.{Item}
-use Rattle.port_values.specs.declared.timer_key.TimerKey.{TimerKey}
+use Rattle.port_model.specs.declared.values.item.Item.{Item}
+use Rattle.port_model.specs.declared.values.timer_key.TimerKey.{TimerKey}
 use Rattle.run_semantics.specs.Goes.{drawn_as, entry_as}
 use Rattle.settle_meaning.specs.Closed.{IsExpiry}
 use Rattle.settle_meaning.specs.Histories.{puts_of}

@@ -15,8 +15,8 @@ use Rattle.port_model.specs.declared.taken.Taken.TheVariants.{Consumed, Discarde
 use Rattle.port_model.specs.declared.timer.ActiveTimer.{ActiveTimer}
 use Rattle.port_model.specs.declared.timer.Phase.{Phase}
 use Rattle.port_model.specs.declared.timer.Phase.TheVariants.{Running, Waiting}
-use Rattle.port_values.specs.declared.item.Item.{Item}
-use Rattle.port_values.specs.declared.timer_key.TimerKey.{TimerKey}
+use Rattle.port_model.specs.declared.values.item.Item.{Item}
+use Rattle.port_model.specs.declared.values.timer_key.TimerKey.{TimerKey}
 use Rattle.settle_meaning.specs.MeaningLaws.{ExpiriesHaveSets}
 
 -- the timer runs by a set that was made

@@ -1,16 +1,16 @@
 -- Draws after which no more waits change nothing.
 use Rattle.std.proofs.Common.{◌≡◌, ◌∙◌, ◌⊎◌, ◌==◌, ◌≤◌, ◌+◌, ap, arith, cond, inl, inr, length, refl, subst, sym, ⊎_elim, ℕ, Bool, true, false, List, [], ◌∷◌, ◌++◌}
 use Rattle.std.proofs.lemmas.List.{length_push}
-use Rattle.port_inbox.specs.Calls.{after_draws, after_entry}
-use Rattle.port_inbox.specs.declared.entry.Entry.{Entry}
-use Rattle.port_inbox.specs.declared.entry.Entry.TheVariants.{Signal, Timer}
-use Rattle.port_inbox.specs.declared.entry.Fuse.{Fuse}
-use Rattle.port_inbox.specs.declared.placed.Placed.{Placed}
+use Rattle.port_model.specs.Calls.{after_draws, after_entry}
+use Rattle.port_model.specs.declared.inbox.entry.Entry.{Entry}
+use Rattle.port_model.specs.declared.inbox.entry.Entry.TheVariants.{Signal, Timer}
+use Rattle.port_model.specs.declared.inbox.entry.Fuse.{Fuse}
+use Rattle.port_model.specs.declared.inbox.placed.Placed.{Placed}
 use Rattle.port_model.specs.History.{Expire}
 use Rattle.port_model.specs.Port.{PortState, expire_in, expires}
 use Rattle.port_model.specs.Timers.{with_waiting}
 use Rattle.port_model.specs.declared.got.Got.TheVariants as got
-use Rattle.port_values.specs.declared.item.Item.{Item}
+use Rattle.port_model.specs.declared.values.item.Item.{Item}
 use Rattle.run_semantics.specs.Goes.{drawn_as, entry_as}
 use Rattle.settle_meaning.proofs.Drawn.{puts_of-append}
 use Rattle.settle_meaning.specs.Histories.{puts_of}

@@ -1,7 +1,7 @@
 -- With which values of their parameters instances begin (Z.102: create, formal parameter).
 use Rattle.std.specs.Prelude.{◌≡◌, ℕ, List, [], All}
-use Rattle.port_values.specs.declared.pid.Pid.TheVariants.{Null}
-use Rattle.port_values.specs.declared.value.Value.{Value}
+use Rattle.port_model.specs.declared.values.pid.Pid.TheVariants.{Null}
+use Rattle.port_model.specs.declared.values.value.Value.{Value}
 use Rattle.run_record.specs.Record.{RecordValue}
 use Rattle.run_semantics.specs.Effect.{Create, Deed, Effect, effects_of}
 

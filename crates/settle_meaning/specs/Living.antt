@@ -2,9 +2,9 @@
 use Rattle.std.specs.Prelude.{◌≡◌, ◌==◌, ◌&&◌, ℕ, Bool, true, false, not, List, All, Contains, Option, filter, map}
 use Rattle.std.specs.List.{list_any}
 use Rattle.port_model.specs.Timers.{IsLeast}
-use Rattle.port_values.specs.declared.item.SignalId.{SignalId}
-use Rattle.port_values.specs.declared.pid.Pid.{Pid}
-use Rattle.port_values.specs.declared.pid.Pid.TheVariants.{Null}
+use Rattle.port_model.specs.declared.values.item.SignalId.{SignalId}
+use Rattle.port_model.specs.declared.values.pid.Pid.{Pid}
+use Rattle.port_model.specs.declared.values.pid.Pid.TheVariants.{Null}
 use Rattle.run_evaluation.specs.declared.identity.Identity.{Identity}
 use Rattle.run_record.specs.Event as event
 use Rattle.run_record.specs.Event.{Event}

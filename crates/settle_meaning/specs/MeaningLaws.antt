@@ -1,8 +1,8 @@
 -- Laws of runs and histories that settle what a report says.
 use Rattle.std.specs.Prelude.{◌≡◌, ℕ, true, false, List, [], ◌∷◌, ◌++◌, count_by, length}
-use Rattle.port_inbox.specs.Calls.{after_draws}
-use Rattle.port_inbox.specs.Ends.{is_signal}
-use Rattle.port_inbox.specs.declared.placed.Placed.{Placed}
+use Rattle.port_model.specs.Calls.{after_draws}
+use Rattle.port_model.specs.Ends.{is_signal}
+use Rattle.port_model.specs.declared.inbox.placed.Placed.{Placed}
 use Rattle.port_model.specs.History.{IsLegal, PortEvent, Take}
 use Rattle.port_model.specs.Port.{PortState, empty_port}
 use Rattle.port_model.specs.declared.selection.Class.{Class}

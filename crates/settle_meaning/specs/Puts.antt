@@ -1,11 +1,11 @@
 -- What is put into a port, by what the records and the script send there (Z.101: input port; Z.102: output).
 use Rattle.std.specs.Prelude.{◌≡◌, ◌≢◌, ◌==◌, ◌⊎◌, ℕ, List, [], ◌∷◌, ◌++◌, All, Contains, Some, filter, if◌then◌else◌, map, option_to_list}
 use Rattle.std.specs.List.{flat_map}
-use Rattle.port_values.specs.Same.{same_pid}
-use Rattle.port_values.specs.declared.item.Item.{Item}
-use Rattle.port_values.specs.declared.pid.Pid.{Pid}
-use Rattle.port_values.specs.declared.pid.Pid.TheVariants.{Env, Null, Of}
-use Rattle.port_values.specs.declared.value.Value.TheVariants as value
+use Rattle.port_model.specs.Same.{same_pid}
+use Rattle.port_model.specs.declared.values.item.Item.{Item}
+use Rattle.port_model.specs.declared.values.pid.Pid.{Pid}
+use Rattle.port_model.specs.declared.values.pid.Pid.TheVariants.{Env, Null, Of}
+use Rattle.port_model.specs.declared.values.value.Value.TheVariants as value
 use Rattle.run_record.specs.Event as event
 use Rattle.run_record.specs.Event.{Event}
 use Rattle.run_record.specs.Record.{RecordValue}

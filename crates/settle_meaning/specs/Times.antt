@@ -3,10 +3,10 @@ use Rattle.std.specs.Prelude.{◌==◌, ◌≤◌, ◌-◌, ℕ, List, [], ◌�
 use Rattle.std.specs.List.{flat_map}
 use Rattle.port_model.specs.declared.got.Got as got
 use Rattle.port_model.specs.declared.got.Got.TheVariants as came
-use Rattle.port_values.specs.Same.{same_pid}
-use Rattle.port_values.specs.declared.item.Item.{Item}
-use Rattle.port_values.specs.declared.item.SignalId.{SignalId}
-use Rattle.port_values.specs.declared.pid.Pid.{Pid}
+use Rattle.port_model.specs.Same.{same_pid}
+use Rattle.port_model.specs.declared.values.item.Item.{Item}
+use Rattle.port_model.specs.declared.values.item.SignalId.{SignalId}
+use Rattle.port_model.specs.declared.values.pid.Pid.{Pid}
 use Rattle.run_record.specs.Event as event
 use Rattle.run_record.specs.Event.{Event}
 use Rattle.run_record.specs.Record.{RecordValue}

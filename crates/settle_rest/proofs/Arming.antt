@@ -1,7 +1,7 @@
 -- The fuses that wait, with those of a step.
 use Rattle.std.proofs.Common.{◌≡◌, ◌+◌, ◌<◌, ◌≤◌, ℕ, Bool, true, false, List, [], ◌∷◌, ◌++◌, All, ap, arith, if◌then◌else◌, refl}
 use Rattle.std.proofs.lemmas.List.Elements.{All-cons, All-head, All-nil, All-tail}
-use Rattle.port_inbox.specs.declared.entry.Fuse.{Fuse}
+use Rattle.port_model.specs.declared.inbox.entry.Fuse.{Fuse}
 use Rattle.sdl_timers.specs.DueOrder.{is_before, with_fuse}
 use Rattle.serial_sweeps.specs.Sweeps.{IsNoFuseBefore}
 use Rattle.settle_rest.specs.Woken.{with_fuses}

@@ -1,6 +1,6 @@
 -- Who has something to do after a step, and which fuses wait then (Z.102: output, timer).
 use Rattle.std.specs.Prelude.{ℕ, ◌<◌, ◌≤◌, List, [], ◌∷◌, All, Contains}
-use Rattle.port_inbox.specs.declared.entry.Fuse.{Fuse}
+use Rattle.port_model.specs.declared.inbox.entry.Fuse.{Fuse}
 use Rattle.sdl_timers.specs.DueOrder.{with_fuse}
 
 -- these are numbers of instances: none is 0

@@ -5,7 +5,7 @@ ghost use Rattle.sdl_script.specs.Script.{end_of};
 ghost use Rattle.settle_rest.specs.Woken.{AreNumbers, AreUpTo};
 
 use crate::waking::wake;
-use port_values::Ticks;
+use port_model::Ticks;
 use sdl_script::ScriptLine;
 use sdl_timers::Wheel;
 use serial_sweeps::ReadySet;

@@ -1,7 +1,7 @@
 //! What the sweeps of a run ask of its instances.
 
 use crate::waking::wake;
-use port_inbox::Fuse;
+use port_model::Fuse;
 use run_record::RunError;
 use sdl_script::ScriptLine;
 use serial_sweeps::{Agenda, InstanceSet, Made};

@@ -6,7 +6,7 @@ ghost use Rattle.settle_rest.specs.Woken.{AreNumbers};
 
 use crate::begin::{all_entered, end_of, put_fuses, take_fuses};
 use crate::instances::Rest;
-use port_values::Ticks;
+use port_model::Ticks;
 use run_record::RunError;
 use serial_sweeps::{Agenda, Scheduler};
 use std::sync::Wait;

@@ -9,7 +9,7 @@ ghost use Rattle.threads_shared.specs.Noting.{HasNoted, StepsAt};
 
 use crate::instances::Rest;
 use crate::waking::{arm_all, wake, wake_all};
-use port_values::Ticks;
+use port_model::Ticks;
 use run_record::RunError;
 use sdl_interp::Stepped;
 use serial_sweeps::{Agenda, Made};

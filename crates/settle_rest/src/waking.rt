@@ -5,7 +5,7 @@ ghost use Rattle.sdl_timers.specs.DueOrder.{with_fuse};
 ghost use Rattle.serial_sweeps.specs.Sweeps.{IsNoFuseBefore};
 ghost use Rattle.settle_rest.specs.Woken.{AreAwake, AreNumbers, with_fuses};
 
-use port_inbox::Fuse;
+use port_model::Fuse;
 use run_record::Receivers;
 use serial_sweeps::{Agenda, ReadySet};
 use std::alloc::AllocError;

@@ -7,12 +7,12 @@ use Rattle.std.proofs.lemmas.List.{get_or-map, length-map, map-append, map_more}
 use Rattle.std.proofs.lemmas.Option.{none-some}
 use Rattle.std.proofs.lemmas.Slice.Zip.{all_zipped_more, AllZip-long}
 use Rattle.input_port.specs.Ends.{HeldState}
-use Rattle.port_inbox.specs.Ends.{OwnerState, no_port}
-use Rattle.port_queue.specs.Ends.{newborn}
-use Rattle.port_values.specs.declared.item.Item.{Item}
-use Rattle.run_course.specs.declared.course.Course.{Course}
-use Rattle.run_course.specs.declared.course.SenderInto.{SenderInto}
-use Rattle.run_course.specs.declared.course_log.CourseLog.{CourseLog}
+use Rattle.port_model.specs.Ends.{OwnerState, no_port}
+use Rattle.input_port.specs.QueueEnds.{newborn}
+use Rattle.port_model.specs.declared.values.item.Item.{Item}
+use Rattle.port_model.specs.declared.course.course.Course.{Course}
+use Rattle.port_model.specs.declared.course.course.SenderInto.{SenderInto}
+use Rattle.port_model.specs.declared.course.course_log.CourseLog.{CourseLog}
 use Rattle.run_record.specs.Record.{RecordValue}
 use Rattle.settle_checks.specs.Account.{AreCountsOf, IsCountOf, put_at}
 use Rattle.settle_closing.specs.Left.{ClosingState}

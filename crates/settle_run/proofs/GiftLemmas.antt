@@ -2,8 +2,8 @@
 use Rattle.std.proofs.Common.{◌≡◌, ◌∙◌, ◌<◌, ap, get_or, length, subst, sym, ℕ, List, [], ◌∷◌, All}
 use Rattle.std.proofs.lemmas.List.{get_or-map}
 use Rattle.std.proofs.lemmas.List.Elements.{All-cons, All-head, All-nil, All-tail}
-use Rattle.port_values.specs.Same.{same_values, same_values-Decides}
-use Rattle.port_values.specs.declared.value.Value.{Value}
+use Rattle.port_model.specs.Same.{same_values, same_values-Decides}
+use Rattle.port_model.specs.declared.values.value.Value.{Value}
 use Rattle.run_record.specs.Record.{RecordValue}
 use Rattle.run_semantics.specs.Effect.{Arm, Create, Deed, Effect, Send, effects_of}
 use Rattle.settle_meaning.specs.Given.{AreGiven, GivesThese}

@@ -6,16 +6,16 @@ use Rattle.std.proofs.lemmas.Bool.{cases_eq}
 use Rattle.std.proofs.lemmas.List.{get_or_append_left, get_or_default, get_or_push, length_push, length-map, map-append}
 use Rattle.crossbeam_queue.specs.SegTies.{SegId}
 use Rattle.input_port.specs.Ends.{HeldState}
-use Rattle.port_inbox.specs.Ends.{OwnerState, no_port}
-use Rattle.port_queue.specs.Ends.{newborn}
-use Rattle.run_course.specs.declared.course_log.CourseLog.{CourseLog}
+use Rattle.port_model.specs.Ends.{OwnerState, no_port}
+use Rattle.input_port.specs.QueueEnds.{newborn}
+use Rattle.port_model.specs.declared.course.course_log.CourseLog.{CourseLog}
 use Rattle.run_record.specs.Record.{RecordValue}
 use Rattle.sdl_system.specs.System.{SystemValue}
 use Rattle.settle_checks.specs.Account.{AllAt, AreOwnersOf, HavePut, put_at}
 use Rattle.settle_closing.specs.Left.{ClosingState, IsLeftOfOne}
 use Rattle.settle_closing.specs.PortThen.{then_of}
 use Rattle.settle_closing.specs.declared.ending.PortThen.{PortThen}
-use Rattle.port_values.specs.declared.value.Value.{Value}
+use Rattle.port_model.specs.declared.values.value.Value.{Value}
 use Rattle.settle_run.specs.Gifts.{children_at, given_at}
 use Rattle.settle_run.specs.Parts.{AreColumnsOf, AreParts, AreThensOf, logs_of, owner_at, owners_in, owners_of, peers_of, records_of}
 use Rattle.threads_instance.specs.declared.doings.Child.{Child}

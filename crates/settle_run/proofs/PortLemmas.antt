@@ -1,7 +1,7 @@
 -- Ports that were counted, of records that close as the run ends.
 use Rattle.std.proofs.Common.{subst, ℕ, Bool, List}
-use Rattle.port_inbox.specs.Ends.{OwnerState}
-use Rattle.port_values.specs.declared.item.Item.{Item}
+use Rattle.port_model.specs.Ends.{OwnerState}
+use Rattle.port_model.specs.declared.values.item.Item.{Item}
 use Rattle.run_record.specs.Record.{RecordValue}
 use Rattle.settle_checks.specs.Account.{IsCountOf}
 use Rattle.settle_checks.specs.Gathering.{CountedState}

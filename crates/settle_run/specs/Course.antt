@@ -2,12 +2,12 @@
 use Rattle.std.specs.Prelude.{◌≡◌, ◌<◌, ◌+◌, ◌∷◌, ℕ, List, length, map, slice_index_or, Option, Some}
 use Rattle.std.specs.Global.{Vec}
 use Rattle.std.specs.List.{AllZip}
-use Rattle.port_inbox.specs.Ends.{OwnerState}
-use Rattle.port_queue.specs.Kept.{senders_of}
-use Rattle.port_values.specs.declared.item.Item.{Item}
-use Rattle.run_course.specs.declared.course.Course.{Course}
-use Rattle.run_course.specs.declared.course.SenderInto.{SenderInto}
-use Rattle.run_course.specs.declared.course_log.CourseLog.{CourseLog}
+use Rattle.port_model.specs.Ends.{OwnerState}
+use Rattle.input_port.specs.Kept.{senders_of}
+use Rattle.port_model.specs.declared.values.item.Item.{Item}
+use Rattle.port_model.specs.declared.course.course.Course.{Course}
+use Rattle.port_model.specs.declared.course.course.SenderInto.{SenderInto}
+use Rattle.port_model.specs.declared.course.course_log.CourseLog.{CourseLog}
 use Rattle.run_record.specs.Record.{RecordValue}
 use Rattle.settle_checks.specs.Account.{AllAt, put_at}
 use Rattle.settle_closing.specs.Left.{ClosingState}

@@ -1,7 +1,7 @@
 -- What instances were given as they were created, by what each keeps of it (Z.102: create, formal parameter).
 use Rattle.std.specs.Prelude.{◌≡◌, ℕ, List, [], All, map, slice_index_or}
-use Rattle.port_values.specs.declared.pid.Pid.TheVariants.{Null}
-use Rattle.port_values.specs.declared.value.Value.{Value}
+use Rattle.port_model.specs.declared.values.pid.Pid.TheVariants.{Null}
+use Rattle.port_model.specs.declared.values.value.Value.{Value}
 use Rattle.run_record.specs.Record.{RecordValue}
 use Rattle.settle_checks.specs.Account.{AllAt}
 use Rattle.threads_instance.specs.declared.doings.Child.{Child}

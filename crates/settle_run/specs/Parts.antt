@@ -4,10 +4,10 @@ use Rattle.std.specs.declared.alloc.Global.{Global}
 use Rattle.crossbeam_queue.specs.SegTies.{SegId}
 use Rattle.input_port.specs.Ends.{HeldState}
 use Rattle.input_port.specs.Held.{IsKept}
-use Rattle.port_inbox.specs.Ends.{OwnerState, no_port}
-use Rattle.port_queue.specs.Ends.{newborn}
-use Rattle.port_values.specs.declared.item.Item.{Item}
-use Rattle.run_course.specs.declared.course_log.CourseLog.{CourseLog}
+use Rattle.port_model.specs.Ends.{OwnerState, no_port}
+use Rattle.input_port.specs.QueueEnds.{newborn}
+use Rattle.port_model.specs.declared.values.item.Item.{Item}
+use Rattle.port_model.specs.declared.course.course_log.CourseLog.{CourseLog}
 use Rattle.run_record.specs.Record.{RecordValue}
 use Rattle.sdl_system.specs.System.{SystemValue}
 use Rattle.settle_checks.specs.Account.{AllAt}

@@ -5,7 +5,7 @@ ghost use Rattle.std.specs.List.{AllZip};
 ghost use Rattle.settle_run.specs.Course.{HasDrawnOf, HasPutsOf, HasVersionsOf, rows_of};
 ghost use Rattle.threads_ports.specs.Peers.{senders_into};
 
-use run_course::{Course, CourseLog, SenderInto};
+use port_model::{Course, CourseLog, SenderInto};
 use settle_checks::{Counted, Fixed};
 use std::alloc::{AllocError, Global};
 use std::sync::Wait;

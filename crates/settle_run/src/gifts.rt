@@ -3,7 +3,7 @@
 ghost use Rattle.std.specs.Prelude.{◌≡◌, All, IsTrue, OnOk};
 ghost use Rattle.settle_run.specs.Gifts.{AreAllGiven, GetsThese, IsGivenOne, given_by};
 
-use port_values::{Pid, Values};
+use port_model::{Pid, Values};
 use run_record::{Record, RunError};
 use std::alloc::{AllocError, Global};
 use threads_instance::{Child, Gifts};

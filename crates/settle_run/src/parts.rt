@@ -4,7 +4,7 @@ ghost use Rattle.std.specs.Prelude.{IfOk};
 ghost use Rattle.settle_run.specs.Parts.{AreColumnsOf, AreParts};
 
 use input_port::Held;
-use run_course::CourseLog;
+use port_model::CourseLog;
 use run_record::{Record, RunError};
 use settle_closing::{Closing, PortThen};
 use std::alloc::Global;

@@ -9,7 +9,7 @@ ghost use Rattle.settle_run.specs.Parts.{AreSettledPorts, AreThensOf, IsSettledP
 use crate::course::puts_of;
 use crate::parts::PortParts;
 use input_port::Held;
-use port_values::Ticks;
+use port_model::Ticks;
 use run_record::{Record, RunError};
 use settle_checks::{Counted, Fixed, counts_of};
 use settle_closing::{PortThen, ends_as};

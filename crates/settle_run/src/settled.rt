@@ -1,6 +1,6 @@
 //! A settled run.
 
-use run_course::Course;
+use port_model::Course;
 use run_record::Report;
 
 /// A settled run: its report, and what was kept for the one order of all that happened in it. None: nothing was to be

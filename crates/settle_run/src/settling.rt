@@ -6,7 +6,7 @@ ghost use Rattle.settle_meaning.specs.Settled.{IsSettledReport};
 
 use crate::report::report_of;
 use crate::settled::Settled;
-use port_values::Ticks;
+use port_model::Ticks;
 use run_record::RunError;
 use settle_checks::Ending;
 use settle_closing::{Closing, close};

@@ -3,8 +3,7 @@
 use crate::case::{Play, identity};
 use crate::play::{Subject, finish, play};
 use crate::runtime::{OWN, Runtime};
-use port_inbox::{Alone, Fuse};
-use port_values::{Item, Ticks};
+use port_model::{Alone, Fuse, Item, Ticks};
 use run_record::Record;
 use sdl_interp::{Instance, Stepped};
 use std::alloc::Global;

@@ -5,7 +5,7 @@ ghost use Rattle.std.specs.Prelude.{◌≡◌};
 use crate::alone::record_alone;
 use crate::runtime::{OWN, Runtime};
 use crate::shared::record_shared;
-use port_values::{Pid, Ticks, Value, Values};
+use port_model::{Pid, Ticks, Value, Values};
 use run_evaluation::Identity;
 use run_record::{Record, Report};
 use sdl_build::build;

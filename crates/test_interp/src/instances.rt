@@ -1,7 +1,7 @@
 //! Instances with parameters.
 
 use crate::case::{CASE, Case};
-use port_values::Value;
+use port_model::Value;
 
 pub static CASES: [Case<'static>; 1] = [Case {
     name: "instances: parameters have the values that there are",

@@ -4,8 +4,7 @@ ghost use Rattle.std.specs.Prelude.{◌≡◌, ℕ, false, nat_eq, nat_lt, vec_c
 ghost use Rattle.threads_ports.specs.Peers.{put_by};
 
 use input_port::{Desk, Port, Sender};
-use port_inbox::Fuse;
-use port_values::{SignalId, Values};
+use port_model::{Fuse, SignalId, Values};
 use sdl_system::{Dest, ProcessId, Source, System, Target};
 use std::alloc::AllocError;
 use std::marker::PhantomData;

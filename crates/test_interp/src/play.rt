@@ -4,8 +4,7 @@
 ghost use Rattle.std.specs.Prelude.{◌≤◌};
 
 use crate::runtime::Runtime;
-use port_inbox::{Fuse, Inbox};
-use port_values::{Item, Ticks};
+use port_model::{Fuse, Inbox, Item, Ticks};
 use run_record::Record;
 use sdl_interp::{Instance, Stepped};
 use sdl_script::{Script, ScriptLine};

@@ -3,12 +3,12 @@
 
 ghost use Rattle.std.specs.Prelude.{◌≡◌, [], ℕ, Some, false, nat_eq};
 ghost use Rattle.port_model.specs.Port.{empty_port};
-ghost use Rattle.port_queue.specs.Ends.{newborn};
+ghost use Rattle.input_port.specs.QueueEnds.{newborn};
 
 use crate::pair::{FIRST, Pair, SECOND};
 use input_port::birth::port;
 use input_port::{Desk, Held, NewPort, Owner, Port};
-use port_values::{Item, Pid, SignalId, Ticks, Value, Values};
+use port_model::{Item, Pid, SignalId, Ticks, Value, Values};
 use run_evaluation::Identity;
 use run_record::{Record, Report};
 use sdl_build::build;

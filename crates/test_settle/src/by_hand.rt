@@ -1,8 +1,7 @@
 //! Runs that a test makes by hand, act by act, so that what comes of them may be wrong.
 
 use crate::withholding::Withholding;
-use port_inbox::Fuse;
-use port_values::Ticks;
+use port_model::{Fuse, Ticks};
 use run_record::RunError;
 use sdl_system::ProcessId;
 use settle_closing::{Closing, close};

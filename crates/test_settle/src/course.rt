@@ -4,7 +4,7 @@ ghost use Rattle.std.specs.Prelude.{◌<◌};
 
 use crate::given::{Given, make_given};
 use crate::texts::CHAIN;
-use run_course::{Course, SenderInto};
+use port_model::{Course, SenderInto};
 use sdl_workers::{Open, Settled, run_with_course};
 use std::alloc::Global;
 use std::process::Abort;

@@ -6,7 +6,7 @@ ghost use Rattle.threads_ports.specs.Named.{AreMade, AreNamed};
 
 use crate::by_hand::{Made, by_hand};
 use crate::given::Given;
-use port_values::Ticks;
+use port_model::Ticks;
 use run_record::{Report, RunError};
 use sdl_timers::clock;
 use settle_closing::laws::left_without_peers;

@@ -1,8 +1,7 @@
 //! A runtime that gives no values to those that are created.
 
 use input_port::{Port, Sender};
-use port_inbox::Fuse;
-use port_values::{SignalId, Values};
+use port_model::{Fuse, SignalId, Values};
 use sdl_system::{Dest, ProcessId, System, Target};
 use std::alloc::AllocError;
 use std::sync::Wait;

@@ -2,7 +2,7 @@
 
 use clap::Error;
 use clap::error::ErrorKind;
-use port_values::Ticks;
+use port_model::Ticks;
 use sdl_command_line::{Form, InputFile, Part, Task, chosen};
 use sdl_engine::{Command, Options, View};
 use std::alloc::Global;

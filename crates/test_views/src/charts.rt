@@ -3,7 +3,7 @@
 use crate::crowd::CROWD;
 use crate::relay::{RELAY, SCRIPT};
 use crate::runs::{all, chart_of, run_of};
-use port_values::Ticks;
+use port_model::Ticks;
 use std::alloc::{AllocError, Global};
 use view_chart::{Chart, ColumnId, Ending, Row, Selection, Sign, Spot, Tail, Tip, Wanted};
 

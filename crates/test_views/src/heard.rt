@@ -1,7 +1,7 @@
 //! What a listener hears of a run.
 
 use crate::relay::{RELAY, SCRIPT};
-use port_values::Ticks;
+use port_model::Ticks;
 use sdl_build::build;
 use sdl_parse::parse;
 use sdl_script::read_script;

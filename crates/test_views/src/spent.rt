@@ -3,7 +3,7 @@
 use crate::relay::RELAY;
 use crate::runs::{Run, all, chart_of};
 use crate::texts::{in_msc, system_of};
-use port_values::{Pid, SignalId, Ticks};
+use port_model::{Pid, SignalId, Ticks};
 use run_record::{Record, Report};
 use sdl_system::{Dest, ProcessId, StateId, System, Target};
 use std::alloc::{AllocError, Global};

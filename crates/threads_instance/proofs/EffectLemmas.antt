@@ -2,10 +2,10 @@
 use Rattle.std.proofs.Common.{◌≡◌, ◌∙◌, ap, append-nil, refl, ℕ, List, [], ◌∷◌, ◌++◌}
 use Rattle.std.proofs.lemmas.Grind.{flat_map-append}
 use Rattle.std.proofs.lemmas.List.{map-append}
-use Rattle.port_inbox.specs.declared.entry.Fuse.{Fuse}
-use Rattle.port_values.specs.declared.item.Item.{Item}
-use Rattle.port_values.specs.declared.timer_key.TimerKey.{TimerKey}
-use Rattle.port_values.specs.declared.value.Value.{Value}
+use Rattle.port_model.specs.declared.inbox.entry.Fuse.{Fuse}
+use Rattle.port_model.specs.declared.values.item.Item.{Item}
+use Rattle.port_model.specs.declared.values.timer_key.TimerKey.{TimerKey}
+use Rattle.port_model.specs.declared.values.value.Value.{Value}
 use Rattle.run_semantics.specs.Effect.{Arm, Effect, Send}
 use Rattle.sdl_system.specs.declared.route.Target.{Target}
 use Rattle.threads_instance.specs.Doings.{children_of, children_of_one, effect_of, effects_in}

@@ -3,11 +3,11 @@ use Rattle.std.proofs.Common.{◌≡◌, ◌∙◌, ◌&&◌, ap, append-nil, ap
 use Rattle.std.proofs.Common.{◌≤◌, ℕ, Bool, true, false, List, [], ◌∷◌, ◌++◌, Option, None, Some, Result, Ok, Err, MatchResult}
 use Rattle.std.proofs.Common.{OnOk, inl, inr}
 use Rattle.std.proofs.lemmas.Grind.{flat_map-append}
-use Rattle.port_inbox.specs.Calls.{ComesBack}
-use Rattle.port_inbox.specs.declared.entry.Entry.TheVariants.{Signal, Timer}
-use Rattle.port_inbox.specs.declared.entry.Fuse.{Fuse}
-use Rattle.port_queue.specs.Ends.{SenderState}
-use Rattle.port_values.specs.declared.item.Item.{Item}
+use Rattle.port_model.specs.Calls.{ComesBack}
+use Rattle.port_model.specs.declared.inbox.entry.Entry.TheVariants.{Signal, Timer}
+use Rattle.port_model.specs.declared.inbox.entry.Fuse.{Fuse}
+use Rattle.input_port.specs.QueueEnds.{SenderState}
+use Rattle.port_model.specs.declared.values.item.Item.{Item}
 use Rattle.port_model.specs.declared.refused.Refused.{Refused}
 use Rattle.threads_instance.specs.Outbox.{AreEnds, Arms, OutboxState, sent_in}
 use Rattle.threads_ports.proofs.SenderLemmas.{put_in, put_to-puts, sender_to-unknown}

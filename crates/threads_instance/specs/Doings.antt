@@ -1,7 +1,7 @@
 -- What an instance has done outside of itself, and whom it has created (Z.102: output, timer, create).
 use Rattle.std.specs.Prelude.{Bool, List, [], ◌∷◌, map}
 use Rattle.std.specs.List.{flat_map}
-use Rattle.port_values.specs.declared.value.Value.{Value}
+use Rattle.port_model.specs.declared.values.value.Value.{Value}
 use Rattle.run_semantics.specs.Effect.{Arm, Create, Effect, Send}
 use Rattle.threads_instance.specs.declared.doings.Child.{Child}
 use Rattle.threads_instance.specs.declared.effect_list.Doing.{Doing}

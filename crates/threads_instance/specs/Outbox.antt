@@ -1,9 +1,9 @@
 -- What an instance sends with: its senders, and what was sent (Z.102: output, timer).
 use Rattle.std.specs.Prelude.{◌≡◌, ◌==◌, ◌≤◌, ◌⊎◌, ℕ, List, [], ◌∷◌, ◌++◌, if◌then◌else◌}
 use Rattle.std.specs.List.{flat_map}
-use Rattle.port_inbox.specs.declared.entry.Entry.TheVariants.{Timer}
-use Rattle.port_inbox.specs.declared.entry.Fuse.{Fuse}
-use Rattle.port_values.specs.declared.item.Item.{Item}
+use Rattle.port_model.specs.declared.inbox.entry.Entry.TheVariants.{Timer}
+use Rattle.port_model.specs.declared.inbox.entry.Fuse.{Fuse}
+use Rattle.port_model.specs.declared.values.item.Item.{Item}
 use Rattle.run_semantics.specs.World.{Sent}
 use Rattle.threads_ports.specs.Peers.{PeersState, PutsTo, put_to}
 use Rattle.threads_ports.specs.Rows.{EndsWith}

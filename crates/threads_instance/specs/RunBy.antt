@@ -1,8 +1,8 @@
 -- A run that begins with known values of the parameters, and of which it is known what it has done (Z.101: agent; Z.102:
 -- create).
 use Rattle.std.specs.Prelude.{◌≡◌, Bool, List}
-use Rattle.port_inbox.specs.Ends.{OwnerState}
-use Rattle.port_values.specs.declared.value.Value.{Value}
+use Rattle.port_model.specs.Ends.{OwnerState}
+use Rattle.port_model.specs.declared.values.value.Value.{Value}
 use Rattle.run_evaluation.specs.declared.identity.Identity.{Identity}
 use Rattle.run_evaluation.specs.declared.store.Store.{Store}
 use Rattle.run_record.specs.Event.{Event}

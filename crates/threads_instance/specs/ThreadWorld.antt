@@ -1,6 +1,6 @@
 -- The world of an instance that makes a step in a run on threads.
 use Rattle.std.specs.Prelude.{ℕ, List, None, Some}
-use Rattle.port_values.specs.declared.item.Item.{Item}
+use Rattle.port_model.specs.declared.values.item.Item.{Item}
 use Rattle.threads_instance.specs.Outbox.{sent_in}
 use Rattle.run_semantics.specs.Effect.{Effect}
 use Rattle.run_semantics.specs.World.{WorldValue}

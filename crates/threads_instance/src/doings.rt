@@ -5,7 +5,7 @@ ghost use Rattle.run_semantics.specs.Effect.{Create};
 ghost use Rattle.threads_instance.specs.Doings.{children_of};
 
 use crate::effect_list::EffectList;
-use port_values::Values;
+use port_model::Values;
 use sdl_system::ProcessId;
 use std::alloc::{AllocError, Global};
 use std::marker::Model;

@@ -4,8 +4,7 @@ ghost use Rattle.std.specs.Prelude.{◌≡◌, [], ◌∷◌, ◌++◌};
 ghost use Rattle.run_semantics.specs.Effect as effect;
 
 use crate::sent::SentList;
-use port_inbox::Fuse;
-use port_values::{Arm, Item, Pid, SignalId, Ticks, Values};
+use port_model::{Arm, Fuse, Item, Pid, SignalId, Ticks, Values};
 use sdl_system::{ProcessId, Target};
 use std::marker::Model;
 

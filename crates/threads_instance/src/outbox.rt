@@ -1,14 +1,13 @@
 //! What an instance sends with.
 
 ghost use Rattle.std.specs.Prelude.{◌≡◌, ◌≤◌, ◌++◌, ◌∷◌, [], ℕ, false, true, IfErr, MatchResult, OnOk};
-ghost use Rattle.port_inbox.specs.declared.entry.Entry.TheVariants.{Timer};
+ghost use Rattle.port_model.specs.declared.inbox.entry.Entry.TheVariants.{Timer};
 ghost use Rattle.threads_instance.specs.Outbox.{AreEnds};
 ghost use Rattle.threads_ports.specs.Peers.{is_known, put_by, GivesBack, PutsTo};
 
 use crate::sent::SentList;
 use input_port::{Port, Sender};
-use port_inbox::{Fuse, Refused};
-use port_values::{Item, Ticks};
+use port_model::{Fuse, Item, Refused, Ticks};
 use std::alloc::{AllocError, Global};
 use std::marker::Model;
 use std::sync::Wait;

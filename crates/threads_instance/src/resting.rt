@@ -2,7 +2,7 @@
 
 use crate::queue::Rests;
 use crate::thread_instance::ThreadInstance;
-use port_inbox::Inbox;
+use port_model::Inbox;
 use threads_ports::Run;
 
 impl<'s, J: Run, P: Inbox + Drop> Rests for ThreadInstance<'s, J, P> {

@@ -1,13 +1,12 @@
 //! What an instance asks of the run on threads that it is of.
 
 ghost use Rattle.std.specs.Prelude.{◌≡◌, ◌++◌, ◌∷◌, [], true, Bool, List, IfOk, IfSome, None, OnOk, is_some};
-ghost use Rattle.port_inbox.specs.declared.entry.Fuse.{Fuse};
+ghost use Rattle.port_model.specs.declared.inbox.entry.Fuse.{Fuse};
 ghost use Rattle.threads_ports.specs.Peers.{put_by};
 ghost use Rattle.run_semantics.specs.World.{IsRouteBy, has_port};
 
 use input_port::{Port, Sender};
-use port_inbox::Fuse;
-use port_values::{SignalId, Values};
+use port_model::{Fuse, SignalId, Values};
 use sdl_system::{Dest, ProcessId, System, Target};
 use std::alloc::AllocError;
 use threads_ports::Run;

@@ -2,7 +2,7 @@
 
 ghost use Rattle.std.specs.Prelude.{◌≡◌, [], IsTrue, MatchOption, MatchResult, None, Some, length, slice_get};
 ghost use Rattle.port_model.specs.Port.{empty_port};
-ghost use Rattle.run_course.specs.KeptWords.{Notes, NotesAll, emptied};
+ghost use Rattle.port_model.specs.KeptWords.{Notes, NotesAll, emptied};
 ghost use Rattle.sdl_interp.specs.Instance.{HasNothing, HasRunOf, IsAtRest, IsClosed, IsRunAs, Keeps, NeedsStep, Steps, created};
 ghost use Rattle.threads_instance.specs.Doings.{children_of};
 ghost use Rattle.threads_instance.specs.RunBy.{HasRunBy};
@@ -16,9 +16,7 @@ use crate::outbox::Outbox;
 use crate::runtime::Runtime;
 use crate::thread_world::ThreadWorld;
 use input_port::Held;
-use port_inbox::Inbox;
-use port_values::{Ticks, Values};
-use run_course::{CourseLog, KeptWords};
+use port_model::{CourseLog, Inbox, KeptWords, Ticks, Values};
 use run_evaluation::Identity;
 use run_record::Record;
 use sdl_interp::{Ahead, Closed, Instance, Stepped};

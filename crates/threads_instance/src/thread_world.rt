@@ -1,7 +1,7 @@
 //! The world of an instance that makes a step in a run on threads.
 
 ghost use Rattle.std.specs.Prelude.{◌≡◌, ◌≤◌, ℕ, false, true, MatchResult, OnErr, OnOk};
-ghost use Rattle.port_inbox.specs.declared.entry.Entry.TheVariants.{Timer};
+ghost use Rattle.port_model.specs.declared.inbox.entry.Entry.TheVariants.{Timer};
 ghost use Rattle.threads_instance.specs.Outbox.{sent_in, Arms};
 ghost use Rattle.threads_instance.specs.ThreadWorld.{world_of};
 ghost use Rattle.threads_ports.specs.Peers.{is_known, PutsTo};
@@ -10,8 +10,7 @@ ghost use Rattle.run_semantics.specs.World.{has_port, sent_on};
 use crate::doings::Doings;
 use crate::outbox::Outbox;
 use crate::runtime::Runtime;
-use port_inbox::Fuse;
-use port_values::{Item, SignalId, Ticks, Values};
+use port_model::{Fuse, Item, SignalId, Ticks, Values};
 use run_semantics::World;
 use sdl_system::{Dest, ProcessId, System, Target};
 use std::alloc::AllocError;

@@ -1,8 +1,8 @@
 -- Into which ports the senders put, one more at a time.
 use Rattle.std.proofs.Common.{◌≡◌, ◌∙◌, ◌+◌, ap, arith, slice_get, sym, take, zero, suc, ℕ, List, [], ◌∷◌, ◌++◌, Some}
 use Rattle.std.proofs.lemmas.Option.{none-some, same_Some}
-use Rattle.port_queue.specs.Ends.{SenderState}
-use Rattle.run_course.specs.declared.course.SenderInto.{SenderInto}
+use Rattle.input_port.specs.QueueEnds.{SenderState}
+use Rattle.port_model.specs.declared.course.course.SenderInto.{SenderInto}
 use Rattle.threads_ports.specs.Peers.{PeersState, sender_into, senders_into}
 
 one_more : (peers : PeersState) (place : ℕ) (peer : ℕ × SenderState) → slice_get peers place ≡ Some peer

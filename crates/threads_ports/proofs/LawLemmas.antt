@@ -1,9 +1,9 @@
 -- What keeps the facts of senders, and where they lead.
 use Rattle.std.proofs.Common.{◌≡◌, ◌∙◌, ap, append-nil, refl, sym, subst, inl, inr, ⊎_elim, [], ◌∷◌, ◌++◌}
-use Rattle.port_inbox.specs.Put.{of}
-use Rattle.port_queue.proofs.PutLists.{of-append}
+use Rattle.port_model.specs.Put.{of}
+use Rattle.input_port.proofs.PutLists.{of-append}
 use Rattle.input_port.specs.Counts.{signals_in}
-use Rattle.port_values.specs.declared.pid.Pid.TheVariants.{Of}
+use Rattle.port_model.specs.declared.values.pid.Pid.TheVariants.{Of}
 use Rattle.threads_ports.proofs.SendersKept.{last_none, last_of_same}
 use Rattle.threads_ports.proofs.SentLemmas.{sent_to-append}
 use Rattle.threads_ports.proofs.Signals.{signals_in-append}

@@ -5,9 +5,9 @@ use Rattle.std.proofs.lemmas.Bool.{ltb-true, ltb-false}
 use Rattle.std.specs.Option.{ForSome}
 use Rattle.std.specs.declared.alloc.Global.{Global}
 use Rattle.crossbeam_queue.specs.SegTies.{SegId}
-use Rattle.port_inbox.specs.Ends.{OwnerState, no_port}
-use Rattle.port_queue.specs.Ends.{DeskState, newborn}
-use Rattle.port_queue.specs.declared.shared.Port.{Port}
+use Rattle.port_model.specs.Ends.{OwnerState, no_port}
+use Rattle.input_port.specs.QueueEnds.{DeskState, newborn}
+use Rattle.input_port.specs.declared.queue.shared.Port.{Port}
 use Rattle.threads_ports.specs.Named.{AreMade, HaveDesks, HaveOwners, name_of}
 
 -- what is so of each of a list at its place, and of one more at the next, is so of each with that one

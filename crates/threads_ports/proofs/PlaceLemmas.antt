@@ -9,9 +9,9 @@ use Rattle.std.specs.Map.{keys_of, set_value, values_of}
 use Rattle.std.specs.declared.alloc.Global.{Global}
 use Rattle.crossbeam_queue.specs.SegTies.{SegId}
 use Rattle.indexmap.specs.IndexMap.{set_value_at}
-use Rattle.port_inbox.specs.declared.entry.Entry.{Entry}
-use Rattle.port_queue.specs.Calls.{Puts}
-use Rattle.port_queue.specs.Ends.{SenderState}
+use Rattle.port_model.specs.declared.inbox.entry.Entry.{Entry}
+use Rattle.input_port.specs.QueueCalls.{Puts}
+use Rattle.input_port.specs.QueueEnds.{SenderState}
 use Rattle.threads_ports.proofs.SenderLemmas.{IsSet, is_found, puts_through, set-through, stays_through}
 use Rattle.threads_ports.specs.Peers.{AreNamed, PeersState, PutsTo, is_known, sender_to}
 

@@ -6,15 +6,15 @@ use Rattle.std.proofs.lemmas.Map.{lookup-set_value}
 use Rattle.std.specs.Cmp.{nat_eq_equiv}
 use Rattle.std.specs.Map.{set_value}
 use Rattle.std.specs.Option.{option_map_or}
-use Rattle.port_inbox.specs.Calls.{ComesBack}
-use Rattle.port_inbox.specs.Put.{of}
-use Rattle.port_inbox.specs.declared.entry.Entry.{Entry}
-use Rattle.port_inbox.specs.declared.placed.Placed.{Placed}
-use Rattle.port_queue.proofs.PutLists.{of_none, of_same}
-use Rattle.port_queue.specs.Calls.{PutIs, Puts}
+use Rattle.port_model.specs.Calls.{ComesBack}
+use Rattle.port_model.specs.Put.{of}
+use Rattle.port_model.specs.declared.inbox.entry.Entry.{Entry}
+use Rattle.port_model.specs.declared.inbox.placed.Placed.{Placed}
+use Rattle.input_port.proofs.PutLists.{of_none, of_same}
+use Rattle.input_port.specs.QueueCalls.{PutIs, Puts}
 use Rattle.input_port.specs.Counts.{signal_before, signals_in}
-use Rattle.port_queue.specs.Ends.{SenderState, sent_by}
-use Rattle.port_values.specs.declared.item.Item.{Item}
+use Rattle.input_port.specs.QueueEnds.{SenderState, sent_by}
+use Rattle.port_model.specs.declared.values.item.Item.{Item}
 use Rattle.port_model.specs.declared.refused.Refused.{Refused}
 use Rattle.threads_ports.proofs.Signals.{signals_in-append}
 use Rattle.threads_ports.specs.Peers.{PeersState, PutsTo, is_known, put_by, put_to, sender_to}

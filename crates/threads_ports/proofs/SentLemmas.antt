@@ -1,9 +1,9 @@
 -- What a record sends, once one event more is noted.
 use Rattle.std.proofs.Common.{◌≡◌, ◌∙◌, ap, append-nil, cond, nat_eq, sym, ℕ, List, [], ◌∷◌, ◌++◌}
 use Rattle.std.proofs.lemmas.Grind.{flat_map-append}
-use Rattle.port_values.specs.declared.item.Item.{Item}
-use Rattle.port_values.specs.declared.pid.Pid.{Pid}
-use Rattle.port_values.specs.declared.pid.Pid.TheVariants.{Of}
+use Rattle.port_model.specs.declared.values.item.Item.{Item}
+use Rattle.port_model.specs.declared.values.pid.Pid.{Pid}
+use Rattle.port_model.specs.declared.values.pid.Pid.TheVariants.{Of}
 use Rattle.run_record.specs.Event.{Event}
 use Rattle.sdl_system.specs.declared.route.Dest.{Dest}
 use Rattle.run_semantics.specs.Sent.{output_of, sent_by_one, sent_to}

@@ -1,12 +1,12 @@
 -- The signals among entries: of two lists one after the other, and how many they are.
 use Rattle.std.proofs.Common.{◌≡◌, ◌∙◌, ◌+◌, ap, arith, cond, length, refl, ℕ, List, [], ◌∷◌, ◌++◌, count_by}
 use Rattle.std.proofs.lemmas.List.Sums.{sum_by-cons}
-use Rattle.port_inbox.specs.Ends.{is_signal, is_signal_entry}
-use Rattle.port_inbox.specs.declared.entry.Entry.{Entry}
-use Rattle.port_inbox.specs.declared.entry.Entry.TheVariants.{Signal, Timer}
-use Rattle.port_inbox.specs.declared.placed.Placed.{Placed}
+use Rattle.port_model.specs.Ends.{is_signal, is_signal_entry}
+use Rattle.port_model.specs.declared.inbox.entry.Entry.{Entry}
+use Rattle.port_model.specs.declared.inbox.entry.Entry.TheVariants.{Signal, Timer}
+use Rattle.port_model.specs.declared.inbox.placed.Placed.{Placed}
 use Rattle.input_port.specs.Counts.{signal_before, signals_in}
-use Rattle.port_values.specs.declared.item.Item.{Item}
+use Rattle.port_model.specs.declared.values.item.Item.{Item}
 
 signal_before-append : (e : Entry) (xs ys : List Item) → signal_before e (xs ++ ys) ≡ signal_before e xs ++ ys
 signal_before-append (Signal item) xs ys = refl

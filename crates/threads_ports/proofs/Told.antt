@@ -3,16 +3,16 @@ use Rattle.std.proofs.Common.{◌≡◌, ◌≢◌, ◌≤◌, ◌+◌, ◌∙�
 use Rattle.std.proofs.Common.{false, cond, List, [], ◌∷◌, ◌++◌, All, length, append-nil, append_assoc, length-append}
 use Rattle.std.proofs.Common.{count_by}
 use Rattle.std.proofs.lemmas.List.Elements.{All-nil, All-cons, All-head, All-tail, All-weaker}
-use Rattle.port_inbox.specs.Ends.{is_signal}
-use Rattle.port_inbox.specs.Put.{of}
-use Rattle.port_inbox.specs.declared.placed.Placed.{Placed}
+use Rattle.port_model.specs.Ends.{is_signal}
+use Rattle.port_model.specs.Put.{of}
+use Rattle.port_model.specs.declared.inbox.placed.Placed.{Placed}
 use Rattle.input_port.proofs.Counting.{counts_tell, no_fewer}
-use Rattle.port_queue.proofs.PutLists.{of-append}
+use Rattle.input_port.proofs.PutLists.{of-append}
 use Rattle.input_port.specs.Counts as counts
 use Rattle.input_port.specs.Counts.{AllIsDrawn as AreDrawn, Flow, FlowsInto, IsOfOne, put_by_all, sent_by, signals_in}
-use Rattle.port_values.specs.Same.{same_pid, same_pid-Decides}
-use Rattle.port_values.specs.declared.item.Item.{Item}
-use Rattle.port_values.specs.declared.pid.Pid.{Pid}
+use Rattle.port_model.specs.Same.{same_pid, same_pid-Decides}
+use Rattle.port_model.specs.declared.values.item.Item.{Item}
+use Rattle.port_model.specs.declared.values.pid.Pid.{Pid}
 use Rattle.threads_ports.proofs.Signals.{count_by-signals, signals_in-append}
 use Rattle.threads_ports.specs.Rows.{AllIsDrawn, AreApart, EndsAreDrawn, EndsWith, Holds, IsOfRow, IsOther}
 use Rattle.threads_ports.specs.Rows.{NoFewerAreDrawn, NoOtherIsDrawn, NothingMoreIsDrawn, Row, RowsStay, told_by_all}

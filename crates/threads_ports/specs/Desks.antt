@@ -1,7 +1,7 @@
 -- The desks of a run's ports, as they give out senders (Z.101: input port).
 use Rattle.std.specs.Prelude.{ℕ, ◌+◌, ◌-◌, List, slice_index_or, slice_set}
-use Rattle.port_inbox.specs.Ends.{no_port}
-use Rattle.port_queue.specs.Ends.{DeskState}
+use Rattle.port_model.specs.Ends.{no_port}
+use Rattle.input_port.specs.QueueEnds.{DeskState}
 
 -- at the place k the desk of the port of the number k + 1
 abbrev pub DesksState : Type 0

@@ -4,9 +4,9 @@ use Rattle.std.specs.Prelude.{◌≡◌, ℕ, ◌+◌, ◌-◌, ◌<◌, List, l
 use Rattle.std.specs.Option.{ForSome}
 use Rattle.std.specs.declared.alloc.Global.{Global}
 use Rattle.crossbeam_queue.specs.SegTies.{SegId}
-use Rattle.port_inbox.specs.Ends.{OwnerState, no_port}
-use Rattle.port_queue.specs.Ends.{DeskState, newborn}
-use Rattle.port_queue.specs.declared.shared.Port.{Port}
+use Rattle.port_model.specs.Ends.{OwnerState, no_port}
+use Rattle.input_port.specs.QueueEnds.{DeskState, newborn}
+use Rattle.input_port.specs.declared.queue.shared.Port.{Port}
 
 -- each port has the name of its number
 abbrev pub AreNamed : (ℕ → SegId Global) → List Port → Type 0

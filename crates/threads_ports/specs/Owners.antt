@@ -1,6 +1,6 @@
 -- The owners of a run's ports, as they are given out one by one (Z.101: input port).
 use Rattle.std.specs.Prelude.{◌≡◌, ℕ, ◌-◌, List, [], ◌∷◌, Option, None, slice_index_or, slice_set}
-use Rattle.port_inbox.specs.Ends.{OwnerState}
+use Rattle.port_model.specs.Ends.{OwnerState}
 
 -- at the place k the owner of the port of the number k + 1, until it is given out
 abbrev pub OwnersState : Type 0

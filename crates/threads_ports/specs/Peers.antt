@@ -5,15 +5,15 @@ use Rattle.std.specs.declared.alloc.Global.{Global}
 use Rattle.std.specs.Map.{lookup, set_value}
 use Rattle.std.specs.Option.{option_map_or}
 use Rattle.crossbeam_queue.specs.SegTies.{SegId}
-use Rattle.port_inbox.specs.declared.entry.Entry.{Entry}
-use Rattle.port_inbox.specs.Put.{of}
-use Rattle.port_queue.specs.Calls.{Puts}
+use Rattle.port_model.specs.declared.inbox.entry.Entry.{Entry}
+use Rattle.port_model.specs.Put.{of}
+use Rattle.input_port.specs.QueueCalls.{Puts}
 use Rattle.input_port.specs.Counts.{signals_in}
-use Rattle.port_queue.specs.Ends.{SenderState}
-use Rattle.port_values.specs.declared.item.Item.{Item}
-use Rattle.port_values.specs.declared.pid.Pid.{Pid}
-use Rattle.port_values.specs.declared.pid.Pid.TheVariants.{Of}
-use Rattle.run_course.specs.declared.course.SenderInto.{SenderInto}
+use Rattle.input_port.specs.QueueEnds.{SenderState}
+use Rattle.port_model.specs.declared.values.item.Item.{Item}
+use Rattle.port_model.specs.declared.values.pid.Pid.{Pid}
+use Rattle.port_model.specs.declared.values.pid.Pid.TheVariants.{Of}
+use Rattle.port_model.specs.declared.course.course.SenderInto.{SenderInto}
 use Rattle.threads_ports.specs.Rows.{EndsWith}
 use Rattle.threads_ports.specs.declared.senders.not_put.NotPut.{NotPut}
 use Rattle.threads_ports.specs.declared.senders.not_put.NotPut.TheVariants.{Memory, Unknown}

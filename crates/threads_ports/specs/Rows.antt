@@ -1,13 +1,13 @@
 -- What is noted of the senders that a port has gathered, and what that tells of the signals that the port has drawn. It
 -- speaks of lists, and of no port.
 use Rattle.std.specs.Prelude.{◌≡◌, ◌≢◌, ◌≤◌, ◌+◌, ◌⊎◌, ℕ, List, [], ◌∷◌, ◌++◌, All, length, count_by, if◌then◌else◌}
-use Rattle.port_inbox.specs.Ends.{is_signal}
-use Rattle.port_inbox.specs.Put.{StartsWith}
-use Rattle.port_inbox.specs.declared.placed.Placed.{Placed}
+use Rattle.port_model.specs.Ends.{is_signal}
+use Rattle.port_model.specs.Put.{StartsWith}
+use Rattle.port_model.specs.declared.inbox.placed.Placed.{Placed}
 use Rattle.input_port.specs.Counts.{FlowsInto, sent_by, signals_in}
-use Rattle.port_values.specs.Same.{same_pid}
-use Rattle.port_values.specs.declared.item.Item.{Item}
-use Rattle.port_values.specs.declared.pid.Pid.{Pid}
+use Rattle.port_model.specs.Same.{same_pid}
+use Rattle.port_model.specs.declared.values.item.Item.{Item}
+use Rattle.port_model.specs.declared.values.pid.Pid.{Pid}
 
 -- the first list ends with the second
 abbrev pub EndsWith : List Item → List Item → Type 0

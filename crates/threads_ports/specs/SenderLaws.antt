@@ -1,10 +1,10 @@
 -- What keeps the facts of senders, and where they lead.
 use Rattle.std.specs.Prelude.{◌≡◌, ◌⊎◌, ℕ, List, [], ◌∷◌, ◌++◌, length}
-use Rattle.port_inbox.specs.Put.{StartsWith}
-use Rattle.port_inbox.specs.declared.placed.Placed.{Placed}
-use Rattle.port_queue.specs.Ends.{SenderState}
-use Rattle.port_values.specs.declared.item.Item.{Item}
-use Rattle.port_values.specs.declared.pid.Pid.{Pid}
+use Rattle.port_model.specs.Put.{StartsWith}
+use Rattle.port_model.specs.declared.inbox.placed.Placed.{Placed}
+use Rattle.input_port.specs.QueueEnds.{SenderState}
+use Rattle.port_model.specs.declared.values.item.Item.{Item}
+use Rattle.port_model.specs.declared.values.pid.Pid.{Pid}
 use Rattle.threads_ports.specs.Rows.{Holds}
 use Rattle.run_record.specs.Event.{Event}
 use Rattle.threads_ports.specs.Peers.{AreLast, ArePeers, ArePeersOf, PeersState, put_by, put_to}

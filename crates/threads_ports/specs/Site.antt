@@ -1,7 +1,7 @@
 -- The sites where the ports of a run are made, and what is made at one, with its owner and its desk.
 use Rattle.std.specs.Prelude.{◌≡◌, ℕ, ◌+◌, ◌<◌, List, Option, IfSome, length, slice_index_or}
 use Rattle.input_port.specs.declared.birth.NewPort.{NewPort}
-use Rattle.port_queue.specs.Ends.{newborn}
+use Rattle.input_port.specs.QueueEnds.{newborn}
 
 -- if it is made, its owner has this number and has taken nothing, and its desk is of it
 abbrev pub IsPortOf : ℕ → Option NewPort → Type 0

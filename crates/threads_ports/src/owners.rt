@@ -1,7 +1,7 @@
 //! The owners of a run's ports.
 
 ghost use Rattle.std.specs.Prelude.{◌≡◌, IfSome, true, vec_len};
-ghost use Rattle.port_queue.specs.Ends.{newborn};
+ghost use Rattle.input_port.specs.QueueEnds.{newborn};
 ghost use Rattle.run_semantics.specs.World.{has_port};
 ghost use Rattle.threads_ports.specs.Named.{HaveOwners};
 ghost use Rattle.threads_ports.specs.Owners.{owner_of, without_owner};

@@ -1,7 +1,7 @@
 //! The ports of a run, which all threads share.
 
 ghost use Rattle.std.specs.Prelude.{◌≡◌, [], IfOk, IfSome, is_some, true, vec_len};
-ghost use Rattle.port_queue.specs.Ends.{newborn};
+ghost use Rattle.input_port.specs.QueueEnds.{newborn};
 ghost use Rattle.run_semantics.specs.World.{has_port};
 ghost use Rattle.threads_ports.specs.Named.{AreMade, AreNamed};
 ghost use Rattle.threads_ports.specs.Peers.{put_by};

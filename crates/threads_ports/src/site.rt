@@ -1,7 +1,7 @@
 //! A site, where a thread makes the port of a number.
 
 ghost use Rattle.std.specs.Prelude.{◌≡◌, IfOk};
-ghost use Rattle.port_queue.specs.Ends.{newborn};
+ghost use Rattle.input_port.specs.QueueEnds.{newborn};
 ghost use Rattle.threads_ports.specs.Site.{IsPortOf};
 
 use input_port::birth;

@@ -2,11 +2,11 @@
 use Rattle.std.proofs.Common.{◌≡◌, ◌∙◌, ap, cond, eqb-true, is_some, nat_eq, refl, subst, sym, inl, inr, ⊎_elim, ◌⊎◌}
 use Rattle.std.proofs.Common.{ℕ, Bool, true, false, [], ◌∷◌, ◌++◌, IfOk, Option, None, Some, Result, Ok, Err}
 use Rattle.std.proofs.Common.{MatchResult}
-use Rattle.port_inbox.specs.Calls.{ComesBack}
-use Rattle.port_inbox.specs.declared.entry.Entry.TheVariants.{Signal}
+use Rattle.port_model.specs.Calls.{ComesBack}
+use Rattle.port_model.specs.declared.inbox.entry.Entry.TheVariants.{Signal}
 use Rattle.port_model.specs.declared.refused.Refused.{Refused}
-use Rattle.port_queue.specs.Ends.{SenderState}
-use Rattle.port_values.specs.declared.item.Item.{Item}
+use Rattle.input_port.specs.QueueEnds.{SenderState}
+use Rattle.port_model.specs.declared.values.item.Item.{Item}
 use Rattle.run_semantics.specs.World.{has_port}
 use Rattle.sdl_system.specs.declared.route.Target.{Target}
 use Rattle.sdl_system.specs.declared.route.Target.TheVariants.{Instance}

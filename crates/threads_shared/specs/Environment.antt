@@ -1,6 +1,6 @@
 -- What the environment has heard of its script, and what it has put (Z.101: environment; Z.102: input).
 use Rattle.std.specs.Prelude.{◌≡◌, ◌<◌, ℕ, List, [], ◌∷◌, ◌++◌, IfSome, Option, None, Some, map, slice_get, take}
-use Rattle.port_values.specs.declared.pid.Pid.TheVariants.{Env}
+use Rattle.port_model.specs.declared.values.pid.Pid.TheVariants.{Env}
 use Rattle.sdl_script.specs.declared.script.ScriptLine.{ScriptLine}
 use Rattle.sdl_script.specs.declared.script.ScriptSignal.{ScriptSignal}
 use Rattle.sdl_system.specs.Route.{target_in}

@@ -1,6 +1,6 @@
 -- What is noted of a look-up, and of a step in the course of its instance (Z.101: agent; Z.102: output, stop).
 use Rattle.std.specs.Prelude.{◌≡◌, ◌<◌, ◌≤◌, ℕ, List, Option, length}
-use Rattle.run_course.specs.KeptWords.{Notes, NotesAll, emptied}
+use Rattle.port_model.specs.KeptWords.{Notes, NotesAll, emptied}
 use Rattle.sdl_interp.specs.Instance.{Steps}
 use Rattle.sdl_interp.specs.declared.instance.Stepped.{Stepped}
 use Rattle.sdl_interp.specs.declared.instance.Stepped.TheVariants.{Ended, Idle, Moved}

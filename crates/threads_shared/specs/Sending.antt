@@ -1,9 +1,9 @@
 -- What the environment puts into ports, by what its senders have put before and after (Z.101: input port).
 use Rattle.std.specs.Prelude.{◌≡◌, ◌==◌, ◌⊎◌, ℕ, true, false, [], ◌∷◌, ◌++◌, Option, None, Some, if◌then◌else◌}
-use Rattle.port_inbox.specs.declared.entry.Entry.TheVariants.{Timer}
-use Rattle.port_inbox.specs.declared.entry.Fuse.{Fuse}
-use Rattle.port_queue.specs.Ends.{SenderState}
-use Rattle.port_values.specs.declared.item.Item.{Item}
+use Rattle.port_model.specs.declared.inbox.entry.Entry.TheVariants.{Timer}
+use Rattle.port_model.specs.declared.inbox.entry.Fuse.{Fuse}
+use Rattle.input_port.specs.QueueEnds.{SenderState}
+use Rattle.port_model.specs.declared.values.item.Item.{Item}
 use Rattle.run_semantics.specs.World.{has_port}
 use Rattle.sdl_system.specs.declared.route.Target.{Target}
 use Rattle.sdl_system.specs.declared.route.Target.TheVariants.{Instance}

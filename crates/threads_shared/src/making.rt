@@ -7,7 +7,7 @@ ghost use Rattle.threads_shared.specs.Making.{IsMade, IsSpent, LivesSince};
 
 use crate::shared::{Seated, Shared};
 use input_port::{Held, Owner, Port};
-use port_values::{Pid, Values};
+use port_model::{Pid, Values};
 use run_evaluation::Identity;
 use sdl_system::ProcessId;
 use std::alloc::AllocError;

@@ -1,7 +1,7 @@
 //! What a thread of a run has for itself.
 
 ghost use Rattle.std.specs.Prelude.{◌≡◌, [], IfOk, OnOk, Some, if◌then◌else◌, length, replicate, true};
-ghost use Rattle.run_course.specs.KeptWords.{Notes};
+ghost use Rattle.port_model.specs.KeptWords.{Notes};
 ghost use Rattle.threads_ports.specs.Roster.{least_living};
 ghost use Rattle.threads_shared.specs.Noting.{NotesLookUp};
 
@@ -9,9 +9,7 @@ use crate::addressees::Addressees;
 use crate::lookout::Lookout;
 use crate::shared::Shared;
 use crate::tables::Tables;
-use port_inbox::Fuse;
-use port_values::Ticks;
-use run_course::KeptWords;
+use port_model::{Fuse, KeptWords, Ticks};
 use sdl_system::Dest;
 use sdl_timers::Reader;
 use std::alloc::{AllocError, Global};

@@ -8,8 +8,7 @@ ghost use Rattle.threads_ports.specs.Peers.{is_known};
 
 use crate::shared::Shared;
 use input_port::Port;
-use port_inbox::Fuse;
-use port_values::{Item, Ticks};
+use port_model::{Fuse, Item, Ticks};
 use sdl_system::Target;
 use std::alloc::AllocError;
 use std::sync::Wait;

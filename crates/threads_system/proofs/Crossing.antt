@@ -8,7 +8,7 @@ use Rattle.std.proofs.Crossing.{Vec-sync}
 use Rattle.std.proofs.Crossing as owners
 use Rattle.std.proofs.MapsCrossing.{String-sync}
 use Rattle.indexmap.proofs.map.IndexMap.TheSendSync as IndexMap
-use Rattle.port_values.specs.contracts.value.Value as Value
+use Rattle.port_model.specs.contracts.values.value.Value as Value
 use Rattle.sdl_system.specs.contracts.expression.Expression as Expression
 use Rattle.sdl_system.specs.contracts.expression.Expression.TheKnot as Knot
 use Rattle.sdl_system.specs.contracts.process.Process as Process

@@ -7,9 +7,9 @@ use Rattle.std.specs.declared.clone.Clone as clone
 use Rattle.std.specs.declared.sync.Wait as wait
 use Rattle.std.proofs.Crossing as owners
 use Rattle.input_port.proofs.held.Held.TheSendSync as held
-use Rattle.port_inbox.specs.declared.inbox.Inbox as inbox
-use Rattle.port_values.proofs.values.Values.TheSendSync as some-values
-use Rattle.run_course.proofs.course_log.CourseLog.TheSendSync as a-course-log
+use Rattle.port_model.specs.declared.inbox.calls.Inbox as inbox
+use Rattle.port_model.proofs.values.values.Values.TheSendSync as some-values
+use Rattle.port_model.proofs.course.course_log.CourseLog.TheSendSync as a-course-log
 use Rattle.sdl_interp.proofs.transitions.machine.Machine.TheSendSync as a-machine
 use Rattle.sdl_interp.proofs.transitions.machine.Position.TheSendSync as a-position
 use Rattle.sdl_interp.specs.contracts.transitions.running.Core as Core

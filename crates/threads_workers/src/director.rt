@@ -5,8 +5,7 @@ ghost use Rattle.threads_shared.specs.Environment.{IsNextAfter};
 
 use crate::waking::Crew;
 use crossbeam_utils::sync::Parker;
-use port_inbox::Fuse;
-use port_values::Ticks;
+use port_model::{Fuse, Ticks};
 use sdl_timers::Ticker;
 use std::alloc::{AllocError, Global};
 use std::sync::Wait;

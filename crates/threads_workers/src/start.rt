@@ -1,6 +1,6 @@
 //! The instances with which a run begins.
 
-use port_values::{Pid, Values};
+use port_model::{Pid, Values};
 use sdl_system::{Process, ProcessId};
 use std::alloc::AllocError;
 use std::sync::Wait;

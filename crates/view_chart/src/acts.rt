@@ -4,7 +4,7 @@ use crate::chart::{ColumnId, Creation, Ending, Mark, Row, Sign, Spot};
 use crate::passage::Passage;
 use crate::rows::Layout;
 use crate::words::{clipped, push_instance, signal_label};
-use port_values::Value;
+use port_model::Value;
 use run_record::{Entry, Record};
 use sdl_report::{process_name, state_name};
 use sdl_system::StateId;

@@ -2,7 +2,7 @@
 
 ghost use Rattle.std.specs.Prelude.{◌≡◌, ◌+◌, ◌-◌, ◌^◌, min};
 
-use port_values::Ticks;
+use port_model::Ticks;
 use std::alloc::Global;
 
 /// A row of a chart, from 0 downwards.

@@ -5,7 +5,7 @@ use crate::passage::Passage;
 use crate::rows::{Layout, MOST_TRANSITIONS};
 use crate::selection::Selection;
 use crate::words::{label_with, signal_label};
-use port_values::Ticks;
+use port_model::Ticks;
 use sdl_system::Target;
 use std::alloc::AllocError;
 use view_text::Sending;

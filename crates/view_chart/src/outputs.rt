@@ -3,7 +3,7 @@
 use crate::chart::{Arrow, ColumnId, Fate, Row, Spot, Tail, Tip};
 use crate::rows::Layout;
 use crate::words::{label_with, push_instance, push_target, signal_label};
-use port_values::{SignalId, Ticks, Value};
+use port_model::{SignalId, Ticks, Value};
 use run_record::Record;
 use sdl_system::Target;
 use std::alloc::AllocError;

@@ -1,6 +1,6 @@
 //! The moves of a timeline, each with what happens in it.
 
-use port_values::Ticks;
+use port_model::Ticks;
 use run_record::{Entry, Reader, Record, Report};
 use std::alloc::{AllocError, Global};
 use std::iter::Take;

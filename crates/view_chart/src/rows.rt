@@ -9,7 +9,7 @@ use crate::selection::Selection;
 use crate::takes::Take;
 use crate::words::lines_of;
 use indexmap::{IndexMap, IndexSet};
-use port_values::{Ticks, Value};
+use port_model::{Ticks, Value};
 use run_record::{Entry, Report};
 use sdl_system::{StateId, System};
 use std::alloc::{AllocError, Global};

@@ -4,7 +4,7 @@ ghost use Rattle.std.specs.Prelude.{◌≡◌, ◌↔◌, IsTrue};
 ghost use Rattle.std.specs.List.{list_any};
 ghost use Rattle.view_chart.specs.Selection.{IsBetween, has_instance, is_one};
 
-use port_values::Ticks;
+use port_model::Ticks;
 
 /// What of a run is drawn: all, or a choice of its instances and times.
 pub struct Selection {

@@ -3,7 +3,7 @@
 use crate::chart::{Arrow, ColumnId, Fate, Row, Sign, Spot, Tail, Tip};
 use crate::rows::Layout;
 use crate::words::{push_instance, push_number_of, signal_label};
-use port_values::Value;
+use port_model::Value;
 use run_record::{Origin, Record, Stimulus};
 use std::alloc::{AllocError, Global};
 use view_timeline::Link;

@@ -6,7 +6,7 @@ ghost use Rattle.view_chart.specs.Words.{instance_words, number_words, target_wo
 
 use crate::chart::Tip;
 use crate::passage::Passage;
-use port_values::{SignalId, Value};
+use port_model::{SignalId, Value};
 use run_record::{Record, Report};
 use sdl_report::{process_name, push_event, push_signal, record_of};
 use sdl_system::{System, Target};

@@ -1,6 +1,6 @@
 -- What the names of signals stand for in a process, and what there is to cover in it.
 use Rattle.std.proofs.Common.{◌≡◌, ◌∙◌, ℕ, List, Option, ap, option_map}
-use Rattle.port_values.specs.declared.item.SignalId.{SignalId}
+use Rattle.port_model.specs.declared.values.item.SignalId.{SignalId}
 use Rattle.build_definitions.specs.Definitions.{path_of}
 use Rattle.build_definitions.specs.Rows.{ProcessRow}
 use Rattle.build_expressions.specs.declared.scope.SignalMeaning.{SignalMeaning}

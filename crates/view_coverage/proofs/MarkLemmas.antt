@@ -3,8 +3,8 @@ use Rattle.std.proofs.Common.{◌≡◌, ◌∙◌, ℕ, ℤ, ◌+◌, Bool, tru
 use Rattle.std.specs.List.{filter}
 use Rattle.std.specs.Option.{option_map_or}
 use Rattle.std.proofs.lemmas.List.Sums.{sum_by-cons}
-use Rattle.port_values.specs.Same.{same_values, same_values-Decides}
-use Rattle.port_values.specs.declared.value.Value.{Value}
+use Rattle.port_model.specs.Same.{same_values, same_values-Decides}
+use Rattle.port_model.specs.declared.values.value.Value.{Value}
 use Rattle.run_record.specs.Event.{Event}
 use Rattle.run_record.specs.Record.{RecordValue}
 use Rattle.sdl_system.specs.declared.id.VariableId.{VariableId}

@@ -1,6 +1,6 @@
 -- What the states of a process wait for (Z.101: state, input; Z.102: priority input, continuous signal).
 use Rattle.std.specs.Prelude.{◌==◌, ◌&&◌, ◌+◌, ◌++◌, ℕ, Bool, true, false, List, [], ◌∷◌, Option, None, Some, count_by, flat_map, fold, map, option_map, if◌then◌else◌}
-use Rattle.port_values.specs.declared.item.SignalId.{SignalId}
+use Rattle.port_model.specs.declared.values.item.SignalId.{SignalId}
 use Rattle.sdl_lex.specs.declared.place.Place.{Place}
 use Rattle.sdl_system.specs.declared.id.StateId.{StateId}
 use Rattle.sdl_tree.specs.Tree.{BodyPart, ContinuousSignal, FreeAction, Input, InputAll, InputList, InputPart, Inputs, PriorityInput, SavePart, StatePart, States, Stimulus}

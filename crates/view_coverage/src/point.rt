@@ -1,6 +1,6 @@
 //! The points of a process that are counted.
 
-use port_values::SignalId;
+use port_model::SignalId;
 use sdl_system::{ProcessId, StateId};
 
 /// Something that may happen in a state of a process.

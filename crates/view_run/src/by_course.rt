@@ -10,7 +10,7 @@ ghost use Rattle.view_timeline.specs.Timeline.{AreBegun};
 
 use crate::order::Order;
 use crate::replay::{Found, find_order};
-use run_course::Course;
+use port_model::Course;
 use run_record::Report;
 use sdl_script::Script;
 use sdl_system::System;

@@ -1,6 +1,6 @@
 //! What is kept of a run, so that its order can be told.
 
-use run_course::Course;
+use port_model::Course;
 
 /// What was kept of a run, so that its order can be told.
 #[derive(Drop)]

@@ -4,7 +4,7 @@ use Rattle.std.specs.Option.{option_map_or}
 use Rattle.std.proofs.lemmas.List.{drop_all, drop_more, get_or-map, length-map, take_more}
 use Rattle.std.proofs.lemmas.List.Sums.{sum_by_push}
 use Rattle.view_text.specs.Lost.{is_taken, same_arrival, taken_as, takes, untaken}
-use Rattle.port_values.specs.declared.item.SignalId.{SignalId}
+use Rattle.port_model.specs.declared.values.item.SignalId.{SignalId}
 use Rattle.view_text.specs.Sending.{SendingValue, heard_by, sending_value}
 use Rattle.view_text.specs.Walk.{StepValue}
 use Rattle.view_text.specs.declared.arrival.Arrival.{Arrival}

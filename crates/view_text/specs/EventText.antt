@@ -4,11 +4,11 @@ use Rattle.std.specs.Option.{option_map_or}
 use Rattle.std.specs.Fmt.{decimal}
 use Rattle.port_model.specs.declared.got.Got as got
 use Rattle.port_model.specs.declared.got.Got.TheVariants as came
-use Rattle.port_values.specs.Text.{value_text, values_text}
-use Rattle.port_values.specs.declared.item.SignalId.{SignalId}
-use Rattle.port_values.specs.declared.pid.Pid.{Pid}
-use Rattle.port_values.specs.declared.pid.Pid.TheVariants as who
-use Rattle.port_values.specs.declared.value.Value.{Value}
+use Rattle.port_model.specs.Text.{value_text, values_text}
+use Rattle.port_model.specs.declared.values.item.SignalId.{SignalId}
+use Rattle.port_model.specs.declared.values.pid.Pid.{Pid}
+use Rattle.port_model.specs.declared.values.pid.Pid.TheVariants as who
+use Rattle.port_model.specs.declared.values.value.Value.{Value}
 use Rattle.sdl_system.specs.System.{SystemValue}
 use Rattle.sdl_system.specs.declared.id.ProcessId.{ProcessId}
 use Rattle.sdl_system.specs.declared.route.Target.{Target}

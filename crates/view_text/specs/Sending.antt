@@ -4,10 +4,10 @@ use Rattle.std.specs.List.{find, range_with_len}
 use Rattle.std.specs.Option.{option_map}
 use Rattle.port_model.specs.declared.got.Got as got
 use Rattle.port_model.specs.declared.got.Got.TheVariants as came
-use Rattle.port_values.specs.declared.item.Item.{Item}
-use Rattle.port_values.specs.declared.item.SignalId.{SignalId}
-use Rattle.port_values.specs.declared.pid.Pid as pid
-use Rattle.port_values.specs.declared.pid.Pid.TheVariants as who
+use Rattle.port_model.specs.declared.values.item.Item.{Item}
+use Rattle.port_model.specs.declared.values.item.SignalId.{SignalId}
+use Rattle.port_model.specs.declared.values.pid.Pid as pid
+use Rattle.port_model.specs.declared.values.pid.Pid.TheVariants as who
 use Rattle.sdl_script.specs.declared.script.ScriptLine.{ScriptLine}
 use Rattle.sdl_script.specs.declared.script.ScriptSignal.{ScriptSignal}
 use Rattle.sdl_system.specs.Route.{target_in}

@@ -15,7 +15,7 @@ use crate::heard::{closes_record, comes_after};
 use crate::living::Living;
 use crate::sending::Sending;
 use crate::walk::{Step, Walk};
-use port_values::Ticks;
+use port_model::Ticks;
 use run_record::Report;
 use sdl_script::ScriptSignal;
 use sdl_system::{Source, System, Target};

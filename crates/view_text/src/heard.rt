@@ -1,11 +1,11 @@
 //! Which events take what the environment sends, and which come after it.
 
 ghost use Rattle.std.specs.Prelude.{◌≡◌};
-ghost use Rattle.port_values.specs.Value.{ValueList};
+ghost use Rattle.port_model.specs.Value.{ValueList};
 ghost use Rattle.run_record.specs.Entry.{event_of, got_of};
 ghost use Rattle.view_text.specs.Sending.{closes_record, comes_after, env_signal, heard_by, is_after};
 
-use port_values::{SignalId, Ticks};
+use port_model::{SignalId, Ticks};
 use run_record::{Entry, Origin, Stimulus};
 
 /// The signal of the environment that an entry takes.

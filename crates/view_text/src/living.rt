@@ -3,7 +3,7 @@
 ghost use Rattle.std.specs.Prelude.{◌≡◌, ◌≤◌, ◌-◌, ◌==◌, ◌&&◌, ◌||◌, ◌↔◌, ℕ, Bool, nat_eq, IfOk, IsTrue, OnOk, drop, false, if◌then◌else◌, length, option_copied, take, true};
 ghost use Rattle.std.specs.List.{find};
 ghost use Rattle.indexmap.specs.IndexSet.{contains};
-ghost use Rattle.port_values.specs.Value.{ValueList};
+ghost use Rattle.port_model.specs.Value.{ValueList};
 ghost use Rattle.run_record.specs.Entry.{event_of};
 ghost use Rattle.view_text.specs.Living.{AreLiving, IsLeast, IsMost, changed, living_in};
 ghost use Rattle.view_text.specs.Numbered.{are_numbered, lesser, process_of};
@@ -12,7 +12,7 @@ ghost use Rattle.view_timeline.specs.Did.{did};
 ghost use Rattle.view_timeline.specs.Lives.{is_initial, is_null, lives_on};
 
 use indexmap::IndexSet;
-use port_values::Pid;
+use port_model::Pid;
 use run_record::{Entry, Record, Report};
 use sdl_system::System;
 use std::alloc::{AllocError, Global};

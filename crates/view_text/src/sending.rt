@@ -1,6 +1,6 @@
 //! A signal that the environment sends.
 
-use port_values::Item;
+use port_model::Item;
 use sdl_system::Target;
 
 /// A signal that the environment sends: when, in ticks, with its values, and whom it reaches.

@@ -7,7 +7,7 @@ ghost use Rattle.view_timeline.specs.Timeline.{AreBegun};
 ghost use Rattle.view_text.specs.Step.{step_value};
 ghost use Rattle.view_text.specs.Walk.{IsOnTheWay, all_steps, goes_on, left_of};
 
-use port_values::{Ticks, Value};
+use port_model::{Ticks, Value};
 use run_record::{Entry, Record, Report};
 use std::alloc::{AllocError, Global};
 use std::marker::Model;

@@ -3,8 +3,8 @@ use Rattle.std.proofs.Common.{◌≡◌, ℕ, ◌+◌, ◌==◌, Bool, true, fal
 use Rattle.std.specs.Prelude.{IfOk, IsFalse, IsTrue, OnOk}
 use Rattle.std.proofs.lemmas.List.{drop_all, take_all}
 use Rattle.indexmap.specs.IndexSet.{IndexSet, contains}
-use Rattle.port_values.specs.declared.item.SignalId.{SignalId}
-use Rattle.port_values.specs.declared.value.Value.{Value}
+use Rattle.port_model.specs.declared.values.item.SignalId.{SignalId}
+use Rattle.port_model.specs.declared.values.value.Value.{Value}
 use Rattle.run_record.specs.Entry.{event_of, got_from, got_of}
 use Rattle.run_record.specs.Event as event
 use Rattle.run_record.specs.declared.entry.Entry as entry

@@ -4,8 +4,8 @@ use Rattle.std.specs.Option.{IsSome, option_map_or}
 use Rattle.std.proofs.lemmas.List.{map-append}
 use Rattle.std.specs.Map.{lookup}
 use Rattle.indexmap.specs.IndexMap.{IndexMap, UpdatesBy, get}
-use Rattle.port_values.specs.Same.{same_values, same_values-Decides}
-use Rattle.port_values.specs.declared.value.Value.{Value}
+use Rattle.port_model.specs.Same.{same_values, same_values-Decides}
+use Rattle.port_model.specs.declared.values.value.Value.{Value}
 use Rattle.view_timeline.specs.Did.{same_channel}
 use Rattle.view_timeline.specs.Rows.{IsFirst, RowsState, Waiting, all_waiting, letter, row_of, waiting_of}
 use Rattle.view_timeline.proofs.Channels.{same-apart, same-true, same_itself}

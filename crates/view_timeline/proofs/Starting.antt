@@ -2,8 +2,8 @@
 use Rattle.std.proofs.Common.{◌≡◌, ℕ, zero, suc, ◌+◌, ◌<◌, List, [], ◌∷◌, ◌++◌, length, map, get_or, take, slice_get, None, Some, Bool, true, false, ◌||◌, ◌&&◌, ◌==◌, if◌then◌else◌, refl, sym, ◌∙◌, ap, subst, arith}
 use Rattle.std.proofs.lemmas.List.{length-map, map-append, take_more}
 use Rattle.std.specs.List.{AllByRecursion}
-use Rattle.port_values.specs.declared.pid.Pid as pid
-use Rattle.port_values.specs.declared.pid.Pid.TheVariants as who
+use Rattle.port_model.specs.declared.values.pid.Pid as pid
+use Rattle.port_model.specs.declared.values.pid.Pid.TheVariants as who
 use Rattle.run_record.specs.Record.{RecordValue}
 use Rattle.view_timeline.specs.Cursor.{CursorValue}
 use Rattle.view_timeline.specs.Events.{AreTold}

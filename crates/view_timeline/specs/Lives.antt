@@ -1,8 +1,8 @@
 -- Who lives (Z.101: agent, create; Z.102: stop).
 use Rattle.std.specs.Prelude.{ℕ, ◌==◌, ◌&&◌, ◌||◌, Bool, true, false, List, [], ◌∷◌, Some, if◌then◌else◌}
 use Rattle.std.specs.List.{list_any}
-use Rattle.port_values.specs.declared.pid.Pid as pid
-use Rattle.port_values.specs.declared.pid.Pid.TheVariants as who
+use Rattle.port_model.specs.declared.values.pid.Pid as pid
+use Rattle.port_model.specs.declared.values.pid.Pid.TheVariants as who
 use Rattle.run_record.specs.Event as event
 use Rattle.run_record.specs.Record.{RecordValue}
 use Rattle.view_timeline.specs.Did.{Did}

@@ -2,7 +2,7 @@
 use Rattle.std.specs.Prelude.{◌≡◌, ℕ, List, [], ◌∷◌, map, Option, None, Some, if◌then◌else◌}
 use Rattle.std.specs.Option.{option_map_or}
 use Rattle.indexmap.specs.IndexMap.{IndexMap, get}
-use Rattle.port_values.specs.declared.value.Value.{Value}
+use Rattle.port_model.specs.declared.values.value.Value.{Value}
 use Rattle.view_timeline.specs.Did.{Did, Message, same_channel, sent}
 use Rattle.view_timeline.specs.Linked.{gather}
 use Rattle.view_timeline.specs.declared.channel.Channel.{Channel}

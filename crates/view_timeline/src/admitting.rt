@@ -5,7 +5,7 @@ ghost use Rattle.view_timeline.specs.Lives.{is_null};
 ghost use Rattle.view_timeline.specs.Traffic.{ledger_of};
 
 use crate::traffic::Traffic;
-use port_values::Pid;
+use port_model::Pid;
 use run_record::Record;
 use std::alloc::AllocError;
 

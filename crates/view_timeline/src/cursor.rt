@@ -3,7 +3,7 @@
 ghost use Rattle.std.specs.Prelude.{◌≡◌, ◌+◌, ◌∷◌, [], IfOk, IfSome, MatchOption};
 ghost use Rattle.run_record.specs.Entry.{event_of};
 
-use port_values::Value;
+use port_model::Value;
 use run_record::{Entry, Reader, Record};
 use std::alloc::AllocError;
 use std::marker::Model;

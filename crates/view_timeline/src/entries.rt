@@ -1,12 +1,12 @@
 //! What an entry has to do with the order of moves.
 
 ghost use Rattle.std.specs.Prelude.{◌≡◌};
-ghost use Rattle.port_values.specs.Value.{ValueList};
+ghost use Rattle.port_model.specs.Value.{ValueList};
 ghost use Rattle.run_record.specs.Entry.{event_of};
 ghost use Rattle.view_timeline.specs.Did.{begins, looked_up, time_of};
 ghost use Rattle.view_timeline.specs.Effect.{effect_in};
 
-use port_values::{SignalId, Ticks};
+use port_model::{SignalId, Ticks};
 use run_record::{Entry, Stimulus};
 use sdl_system::{Dest, Target};
 

@@ -1,7 +1,7 @@
 //! The events that are told so far.
 
 ghost use Rattle.std.specs.Prelude.{◌≡◌, ◌∷◌, ◌++◌, ◌⊎◌, ℕ, [], List, None, Some, false, true, IfNone, IfOk, IfSome, IsFalse, IsTrue, OnOk, if◌then◌else◌};
-ghost use Rattle.port_values.specs.Value.{ValueList};
+ghost use Rattle.port_model.specs.Value.{ValueList};
 ghost use Rattle.run_record.specs.Entry.{event_of};
 ghost use Rattle.run_record.specs.Record.{RecordValue};
 ghost use Rattle.view_timeline.specs.Events.{Closes, EndsElsewhere, Grows, HasLeft, IsBarred, IsDone, IsInTime, IsNext, IsOutOfTime, Keeps, Lengthens, done_of, has_number, latest_after, reached, timeline_of};
@@ -16,7 +16,7 @@ use crate::cursor::{Cursor, Next};
 use crate::entries::{begins, looked_up, time_of};
 use crate::moves::{EntryId, Move, RecordId, Timeline, record_at};
 use crate::traffic::Traffic;
-use port_values::Ticks;
+use port_model::Ticks;
 use run_record::{Entry, Record};
 use std::alloc::{AllocError, Global};
 

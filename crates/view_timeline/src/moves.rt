@@ -3,7 +3,7 @@
 ghost use Rattle.std.specs.Prelude.{◌≡◌, IfOk};
 
 use indexmap::IndexSet;
-use port_values::Ticks;
+use port_model::Ticks;
 use std::alloc::AllocError;
 
 /// A record of a report, by its place among them, from 0.

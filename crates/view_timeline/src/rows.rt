@@ -7,7 +7,7 @@ ghost use Rattle.view_timeline.specs.declared.channel.Channel.{Channel};
 use crate::channel::Channel;
 use crate::moves::EventId;
 use indexmap::IndexMap;
-use port_values::Value;
+use port_model::Value;
 use std::alloc::{AllocError, Global};
 use std::collections::VecDeque;
 

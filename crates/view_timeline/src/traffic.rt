@@ -14,7 +14,7 @@ use crate::entries::{Effect, effect_of};
 use crate::moves::{ArrowId, EventId, Link};
 use crate::rows::{Rows, Sent};
 use indexmap::IndexSet;
-use port_values::{SignalId, Value};
+use port_model::{SignalId, Value};
 use run_record::{Entry, Origin, Stimulus};
 use sdl_system::Target;
 use std::alloc::{AllocError, Global};

@@ -14,7 +14,7 @@ use crate::number::next_number;
 use crate::symbols::declaration::{Declaration, add, declare_all};
 use build_expressions::SignalMeaning;
 use build_names::{Faults, Spaces};
-use port_values::SignalId;
+use port_model::SignalId;
 use sdl_system::Sort;
 use std::alloc::{AllocError, Global};
 

@@ -1,6 +1,6 @@
 //! Signal lists, and the signals that they stand for.
 
-use port_values::SignalId;
+use port_model::SignalId;
 
 /// A list of signals, counted from 0. Each place in the text that lists signals has a number: a `signallist`, what a
 /// channel path carries, a `signalset`, and what a process inputs and saves.

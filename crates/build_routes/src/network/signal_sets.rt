@@ -4,7 +4,7 @@
 //! lists for each 64 signals, and as many steps more as there are lists through which a signal comes to a list.
 
 ghost use Rattle.std.specs.Prelude.{◌≡◌, ◌⊎◌, ℕ, ◌<◌, ◌/◌, ◌%◌, ◌↔◌, IfOk, IsTrue, OnOk};
-ghost use Rattle.port_values.specs.declared.item.SignalId.{SignalId};
+ghost use Rattle.port_model.specs.declared.values.item.SignalId.{SignalId};
 ghost use Rattle.build_routes.specs.Each.{ForSome};
 ghost use Rattle.build_routes.specs.Graph.{Adds, Leads};
 ghost use Rattle.build_routes.specs.Mask.{Bit, Has};
@@ -15,7 +15,7 @@ ghost use Rattle.build_routes.specs.declared.network.graph.Step.{Step};
 use crate::network::graph::{Graph, Step};
 use crate::network::list::{Item, ListId, SignalList};
 use crate::network::mask::{has_bit, mask_at, with_bit};
-use port_values::SignalId;
+use port_model::SignalId;
 use std::alloc::{AllocError, Global};
 
 /// For each list, by its number, the signals that it stands for.

@@ -6,7 +6,7 @@ ghost use Rattle.build_states.specs.Context.{listed_members, members_of};
 use build_definitions::SignalListId;
 use build_expressions::Scope;
 use build_names::Outward;
-use port_values::SignalId;
+use port_model::SignalId;
 
 /// The meanings of the names that the stimuli of a process can use.
 #[derive(Clone, Copy)]

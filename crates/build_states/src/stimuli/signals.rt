@@ -8,7 +8,7 @@ ghost use Rattle.build_states.specs.declared.stimuli.subject.Subject.TheVariants
 
 use crate::stimuli::subject::Subject;
 use build_expressions::SignalMeaning;
-use port_values::SignalId;
+use port_model::SignalId;
 use sdl_system::Sort;
 use std::alloc::{AllocError, Global};
 

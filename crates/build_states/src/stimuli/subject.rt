@@ -1,6 +1,6 @@
 //! Of what a state speaks.
 
-use port_values::SignalId;
+use port_model::SignalId;
 
 /// Of what a state speaks.
 #[derive(Clone, Copy, PartialEq, Eq, Hash)]

@@ -15,7 +15,7 @@ use build_definitions::{Definitions, SymbolTable};
 use build_names::Faults;
 use build_network::{network_of, note_network};
 use build_routes::{Network, SignalSets, counted, routes_of};
-use port_values::SignalId;
+use port_model::SignalId;
 use sdl_system::Routes;
 use std::alloc::{AllocError, Global};
 

@@ -10,7 +10,7 @@ ghost use Rattle.sdl_system.specs.Behaviour.{variable_meaning};
 use build_definitions::ValueName;
 use build_expressions::{Constant, ValueEntry};
 use build_names::ScopeId;
-use port_values::Value;
+use port_model::Value;
 use sdl_system::{ProcessId, Sort, Variable};
 use std::alloc::{AllocError, Global};
 

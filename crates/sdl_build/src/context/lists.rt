@@ -6,7 +6,7 @@ ghost use Rattle.build_routes.specs.SignalLists.{AreSets};
 ghost use Rattle.build_states.specs.Context.{listed_members};
 
 use build_routes::{ListId, Network, SignalSets};
-use port_values::SignalId;
+use port_model::SignalId;
 use std::alloc::{AllocError, Global};
 
 /// The signals that each of the first so many lists stands for.

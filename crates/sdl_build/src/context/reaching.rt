@@ -3,7 +3,7 @@
 ghost use Rattle.std.specs.Prelude.{◌≡◌, IfOk};
 ghost use Rattle.sdl_build.specs.ProcessScope.{is_reaching, reaching};
 
-use port_values::SignalId;
+use port_model::SignalId;
 use sdl_system::{ProcessId, Routes, Source};
 use std::alloc::{AllocError, Global};
 

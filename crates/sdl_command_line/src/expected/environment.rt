@@ -4,8 +4,8 @@ ghost use Rattle.std.specs.Prelude.{◌≡◌, ℕ, List, [], ◌++◌, IfOk, On
 ghost use Rattle.std.specs.List.{AllByRecursion};
 ghost use Rattle.std.specs.Option.{option_map_or, unwrap_or};
 ghost use Rattle.std.specs.String.{string_bytes};
-ghost use Rattle.port_values.specs.declared.item.SignalId.{SignalId};
-ghost use Rattle.port_values.specs.declared.value.Value.{Value};
+ghost use Rattle.port_model.specs.declared.values.item.SignalId.{SignalId};
+ghost use Rattle.port_model.specs.declared.values.value.Value.{Value};
 ghost use Rattle.run_record.specs.Entry.{event_of};
 ghost use Rattle.sdl_command_line.specs.Outputs.{output_line, outputs_by_sender, outputs_in, outputs_of, sent_text, time_after};
 ghost use Rattle.sdl_system.specs.System.{SystemValue};
@@ -13,7 +13,7 @@ ghost use Rattle.view_text.specs.Walk.{all_steps};
 ghost use Rattle.view_timeline.specs.Moves.{IsPart};
 ghost use Rattle.view_timeline.specs.Timeline.{AreBegun};
 
-use port_values::{SignalId, Ticks, Value};
+use port_model::{SignalId, Ticks, Value};
 use run_record::{Entry, Record, Report};
 use sdl_report::push_signal;
 use sdl_system::{System, Target};

@@ -3,7 +3,7 @@
 ghost use Rattle.std.specs.Prelude.{◌≡◌};
 ghost use Rattle.std.specs.Option.{option_map};
 ghost use Rattle.port_model.specs.Take.{name_of};
-ghost use Rattle.port_values.specs.Value.{ValueList};
+ghost use Rattle.port_model.specs.Value.{ValueList};
 ghost use Rattle.run_record.specs.Entry.{event_of, got_of};
 ghost use Rattle.sdl_failures.specs.Came.{begin_of, continuous_in, numbered};
 ghost use Rattle.sdl_failures.specs.Received.{reception_in};

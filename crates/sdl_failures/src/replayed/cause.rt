@@ -11,8 +11,7 @@ ghost use Rattle.sdl_system.specs.Term.{term_of};
 ghost use Rattle.sdl_failures.specs.Fails.{AssignmentFails, CreationFails, DecisionFails, PartFails, SendingFails, SettingFails, TimerFails};
 ghost use Rattle.sdl_failures.specs.Part.{HasPart};
 
-use port_inbox::Alone;
-use port_values::Ticks;
+use port_model::{Alone, Ticks};
 use run_evaluation::{Knowledge, evaluate, evaluate_all, evaluate_at, evaluate_key};
 use run_record::Failure;
 use sdl_interp::sort_of;

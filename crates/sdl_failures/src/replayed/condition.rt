@@ -5,7 +5,7 @@ ghost use Rattle.run_evaluation.specs.Knowledge.{environment_of};
 ghost use Rattle.sdl_failures.specs.Fails.{ComesTo, ContinuousFails, EachBefore, EnablingFails, HasTruth, IsStop, StopsAt, StopsContinuous, StopsEnabling, StopsIn, enabling_of};
 
 use crate::replayed::cause::is_same;
-use port_inbox::Alone;
+use port_model::Alone;
 use run_evaluation::{Knowledge, is_true};
 use run_record::Failure;
 use sdl_system::{ConditionId, Process, StateTable};

@@ -3,7 +3,7 @@
 ghost use Rattle.std.specs.Prelude.{◌≡◌, ◌<◌, Contains, IfOk, IfSome, List, Some, slice_get, true};
 ghost use Rattle.sdl_system.specs.declared.process.Process as processes;
 ghost use Rattle.run_evaluation.specs.Variables.{VariableList};
-ghost use Rattle.port_values.specs.Value.{ValueList};
+ghost use Rattle.port_model.specs.Value.{ValueList};
 ghost use Rattle.run_record.specs.Entry.{event_of};
 ghost use Rattle.run_record.specs.Event as event;
 ghost use Rattle.run_record.specs.Event.{Event};
@@ -17,7 +17,7 @@ use crate::replayed::part::is_number;
 use crate::replayed::replay::Replay;
 use crate::replayed::split::{Goal, events_before};
 use crate::replayed::spot::Spot;
-use port_values::{Pid, Value, Values};
+use port_model::{Pid, Value, Values};
 use run_evaluation::{Variables, evaluate_all};
 use run_record::{Entry, Record};
 use sdl_system::{Creation, Process, ProcessId, Statement, System};

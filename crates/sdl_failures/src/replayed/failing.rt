@@ -1,7 +1,7 @@
 //! The place of a failure.
 
 ghost use Rattle.std.specs.Prelude.{◌≡◌, ◌≤◌, ◌∷◌, [], IfOk, IfSome, Some, slice_get, true};
-ghost use Rattle.port_values.specs.Value.{ValueList};
+ghost use Rattle.port_model.specs.Value.{ValueList};
 ghost use Rattle.run_record.specs.Entry.{event_of, got_of};
 ghost use Rattle.run_record.specs.Event as event;
 ghost use Rattle.run_semantics.specs.Fails.{most_statements};

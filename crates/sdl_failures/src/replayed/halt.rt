@@ -1,7 +1,7 @@
 //! The place of a failure.
 
 use crate::replayed::reception::Misfit;
-use port_values::SignalId;
+use port_model::SignalId;
 use sdl_system::{ConditionId, NodeId, StateId};
 
 /// What of a process fails an instance of it.

@@ -6,7 +6,7 @@ ghost use Rattle.run_evaluation.specs.Environment.{initial_store};
 ghost use Rattle.run_semantics.specs.Fails.{most_statements};
 ghost use Rattle.run_semantics.specs.Leads.{Counts};
 
-use port_inbox::Alone;
+use port_model::Alone;
 use run_evaluation::{Identity, Knowledge, Store, Variables};
 use sdl_system::System;
 use std::alloc::Global;

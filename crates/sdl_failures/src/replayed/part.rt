@@ -1,7 +1,7 @@
 //! The parts of a statement, each of which makes an event.
 
 ghost use Rattle.std.specs.Prelude.{◌≡◌, true};
-ghost use Rattle.port_values.specs.Value.{ValueList};
+ghost use Rattle.port_model.specs.Value.{ValueList};
 ghost use Rattle.run_record.specs.Entry.{event_of};
 ghost use Rattle.sdl_failures.specs.Part.{DoesCreate, DoesOutput, DoesPart, DoesReset, DoesSet, DoesTask, parts_of};
 

@@ -4,7 +4,7 @@ ghost use Rattle.std.specs.Prelude.{◌≡◌, Err, IfSome, Ok, option_copied, t
 ghost use Rattle.run_evaluation.specs.declared.store.Store as stores;
 ghost use Rattle.sdl_failures.specs.Received.{received, reception_in};
 
-use port_values::{SignalId, Value};
+use port_model::{SignalId, Value};
 use run_evaluation::{Store, place};
 use run_record::Failure;
 use sdl_interp::sort_of;

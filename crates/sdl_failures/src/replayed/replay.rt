@@ -1,7 +1,7 @@
 //! A record that is gone through.
 
 ghost use Rattle.std.specs.Prelude.{◌≡◌, IfOk, true};
-ghost use Rattle.port_values.specs.Value.{ValueList};
+ghost use Rattle.port_model.specs.Value.{ValueList};
 ghost use Rattle.run_record.specs.Entry.{event_of};
 ghost use Rattle.sdl_failures.specs.Replay.{Follows, HasCome};
 ghost use Rattle.sdl_failures.specs.Stands.{identity_of};

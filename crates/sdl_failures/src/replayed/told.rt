@@ -1,7 +1,7 @@
 //! What an instance knows after an event of its record.
 
 ghost use Rattle.std.specs.Prelude.{◌≡◌, IfOk, OnOk, Some, true};
-ghost use Rattle.port_values.specs.Value.{ValueList};
+ghost use Rattle.port_model.specs.Value.{ValueList};
 ghost use Rattle.run_record.specs.Entry.{event_of, got_of};
 ghost use Rattle.run_semantics.specs.Leads.{offspring_of};
 ghost use Rattle.sdl_failures.specs.Received.{received_by, reception_in};
@@ -12,8 +12,7 @@ ghost use Rattle.run_record.specs.Event.{values_got};
 
 use crate::replayed::known::Known;
 use crate::replayed::reception::{receive, reception_in};
-use port_inbox::{Alone, Inbox};
-use port_values::{Pid, SignalId, Ticks, TimerKey, Value, Values};
+use port_model::{Alone, Inbox, Pid, SignalId, Ticks, TimerKey, Value, Values};
 use run_evaluation::Store;
 use run_record::{Entry, Origin, Stimulus};
 use sdl_system::{Process, StateId};

@@ -11,7 +11,7 @@ ghost use Rattle.sdl_system.specs.Term.{term_of};
 
 use crate::transitions::count::with_one_more;
 use crate::transitions::running::Core;
-use port_inbox::Inbox;
+use port_model::Inbox;
 use run_evaluation::{Knowledge, evaluate};
 use run_record::Failure;
 use sdl_system::{Decision, Way};

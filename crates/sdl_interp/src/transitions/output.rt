@@ -15,8 +15,7 @@ ghost use Rattle.sdl_system.specs.Term.{term_of};
 
 use crate::transitions::machine::make_room;
 use crate::transitions::running::Core;
-use port_inbox::Inbox;
-use port_values::{Item, Pid, SignalId, Value, Values};
+use port_model::{Inbox, Item, Pid, SignalId, Value, Values};
 use run_evaluation::{Knowledge, evaluate_all, evaluate_at, sorts_of};
 use run_record::Failure;
 use run_semantics::World;

@@ -4,7 +4,7 @@ ghost use Rattle.std.specs.Prelude.{◌≡◌};
 ghost use Rattle.sdl_interp.specs.Running.{GoesOn, failed, known_by, seen};
 
 use crate::transitions::machine::Machine;
-use port_inbox::Inbox;
+use port_model::Inbox;
 use run_evaluation::Knowledge;
 use run_record::Failure;
 use sdl_system::{Process, System};

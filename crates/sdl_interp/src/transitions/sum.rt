@@ -2,7 +2,7 @@
 
 ghost use Rattle.std.specs.Prelude.{◌≡◌, IfSome, Ok, Some};
 ghost use Rattle.port_model.specs.Port.{PortState};
-ghost use Rattle.port_values.specs.declared.value.Value.TheVariants.{Int};
+ghost use Rattle.port_model.specs.declared.values.value.Value.TheVariants.{Int};
 ghost use Rattle.run_evaluation.specs.Environment.{environment};
 ghost use Rattle.run_evaluation.specs.Value.{at_place, given, value_of};
 ghost use Rattle.run_evaluation.specs.declared.identity.Identity as identity;
@@ -11,7 +11,7 @@ ghost use Rattle.sdl_system.specs.System.{SystemValue};
 ghost use Rattle.sdl_system.specs.Term.{term_of, term_of_chain};
 ghost use Rattle.sdl_system.specs.declared.sort.Sort.TheVariants.{Integer};
 
-use port_values::Value;
+use port_model::Value;
 use run_evaluation::Store;
 use sdl_system::{Arithmetic, Chain, Expression, NumberSort, Operation, Sort};
 

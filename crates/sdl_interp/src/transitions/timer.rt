@@ -11,9 +11,7 @@ ghost use Rattle.sdl_system.specs.Table.{setting, timing, when_due};
 
 use crate::transitions::machine::make_room;
 use crate::transitions::running::Core;
-use port_inbox::Inbox;
-use port_model::PortError;
-use port_values::Ticks;
+use port_model::{Inbox, PortError, Ticks};
 use run_evaluation::{Knowledge, evaluate_at, evaluate_key};
 use run_record::Failure;
 use run_semantics::World;

@@ -8,7 +8,7 @@ ghost use Rattle.sdl_system.specs.declared.id.StateId.{StateId};
 use crate::transitions::count::count;
 use crate::transitions::machine::{Position, make_room};
 use crate::transitions::running::Core;
-use port_inbox::Inbox;
+use port_model::Inbox;
 use run_record::Failure;
 use run_semantics::World;
 use sdl_system::{Node, NodeId, StateId, Statement};

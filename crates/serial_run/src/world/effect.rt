@@ -1,7 +1,6 @@
 //! What an instance does to what lies outside of it.
 
-use port_inbox::Fuse;
-use port_values::{Item, Values};
+use port_model::{Fuse, Item, Values};
 use sdl_system::{ProcessId, Target};
 
 /// An effect that a step of an instance has outside of it. It is done when the step is over.

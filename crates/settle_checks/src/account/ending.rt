@@ -7,7 +7,7 @@ ghost use Rattle.sdl_script.specs.Script as script;
 ghost use Rattle.settle_meaning.specs.Puts.{Heard, signals_heard, signals_of};
 
 use crate::summing::{Summary, latest, transitions};
-use port_values::Ticks;
+use port_model::Ticks;
 use run_record::{Record, RunError};
 use sdl_script::ScriptLine;
 

@@ -15,7 +15,7 @@ ghost use Rattle.settle_checks.specs.declared.summing.flows.Pass.{Pass};
 
 use crate::account::sending::send_passes;
 use crate::summing::{Crossing, Pass, Summary};
-use port_values::{Pid, SignalId};
+use port_model::{Pid, SignalId};
 use run_record::{Record, RunError};
 use sdl_script::ScriptLine;
 use sdl_system::Target;

@@ -1,7 +1,7 @@
 //! Whether all was put that was sent.
 
 ghost use Rattle.std.specs.Prelude.{◌≡◌, ◌≤◌, ℕ, List, All, IfOk, OnOk, length, slice_index_or};
-ghost use Rattle.port_values.specs.declared.pid.Pid.TheVariants.{Of};
+ghost use Rattle.port_model.specs.declared.values.pid.Pid.TheVariants.{Of};
 ghost use Rattle.run_record.specs.Record.{RecordValue};
 ghost use Rattle.run_semantics.specs.World.{most_instances};
 ghost use Rattle.settle_checks.specs.Account.{AreAllPut, ArePutAlong, ArePutToBorn, IsAllHeard, IsAllPut, IsPutToOne};
@@ -13,7 +13,7 @@ ghost use Rattle.threads_ports.specs.Peers.{put_to};
 
 use crate as checks;
 use crate::summing::{Summary, Totals, is_enough};
-use port_values::Pid;
+use port_model::Pid;
 use run_record::{Record, RunError};
 use sdl_system::Target;
 use std::alloc::{AllocError, Global};

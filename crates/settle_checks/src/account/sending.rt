@@ -1,7 +1,7 @@
 //! What a sender sends and has put.
 
 ghost use Rattle.std.specs.Prelude.{◌≡◌, ◌≤◌, ℕ, All, IsTrue, OnOk, length};
-ghost use Rattle.port_values.specs.declared.pid.Pid.TheVariants.{Of};
+ghost use Rattle.port_model.specs.declared.values.pid.Pid.TheVariants.{Of};
 ghost use Rattle.settle_checks.specs.Crossed.{AreTotalsOf, IsBornAfter, IsRestSent, IsSentBy};
 ghost use Rattle.settle_meaning.specs.Identities.{AreRising};
 ghost use Rattle.settle_checks.specs.Flows.{counted, is_with, sent_passes};
@@ -13,7 +13,7 @@ ghost use Rattle.threads_ports.specs.Peers.{put_to};
 use crate::summing::{
     Birth, Crossing, Flow, Pass, Summary, Totals, add_sent, flows_of, late_flows, passes_of,
 };
-use port_values::Pid;
+use port_model::Pid;
 use run_record::{Record, RunError};
 use std::alloc::Global;
 use threads_ports::{Peers, Run};

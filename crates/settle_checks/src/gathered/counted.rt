@@ -1,7 +1,7 @@
 //! A port that was counted.
 
 ghost use Rattle.std.specs.Prelude.{◌≡◌, IfSome};
-ghost use Rattle.port_queue.specs.Kept.{senders_of};
+ghost use Rattle.input_port.specs.Kept.{senders_of};
 ghost use Rattle.settle_checks.specs.Gathering.{IsCounted};
 
 use crate::gathered::Fixed;

@@ -6,8 +6,8 @@ use std::marker::Brand;
 /// its threads are joined, and all that is gathered then has it as a type parameter.
 pub trait Fixed {
     ghost use Rattle.std.specs.Prelude.{ℕ, List};
-    ghost use Rattle.port_inbox.specs.Ends.{OwnerState};
-    ghost use Rattle.port_values.specs.declared.item.Item.{Item};
+    ghost use Rattle.port_model.specs.Ends.{OwnerState};
+    ghost use Rattle.port_model.specs.declared.values.item.Item.{Item};
 
     /// The signals that were put into the port of a number by the senders of a place, in their order.
     ghost puts: { ℕ → ℕ → List Item };
@@ -18,8 +18,8 @@ pub trait Fixed {
 
 impl Fixed for Brand {
     ghost use Rattle.std.specs.Prelude.{[]};
-    ghost use Rattle.port_inbox.specs.Ends.{no_port};
-    ghost use Rattle.port_queue.specs.Ends.{newborn};
+    ghost use Rattle.port_model.specs.Ends.{no_port};
+    ghost use Rattle.input_port.specs.QueueEnds.{newborn};
 
     ghost puts = { λ _ _. [] };
 

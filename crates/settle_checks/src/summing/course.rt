@@ -1,7 +1,7 @@
 //! The times of a record, its start, and how many transitions it has.
 
 ghost use Rattle.std.specs.Prelude.{◌≡◌, ◌+◌, ◌++◌, ◌∷◌, [], List, IfSome, IsTrue, if◌then◌else◌};
-ghost use Rattle.port_values.specs.declared.value.Value.{Value};
+ghost use Rattle.port_model.specs.declared.values.value.Value.{Value};
 ghost use Rattle.run_record.specs.Entry.{event_of};
 ghost use Rattle.run_record.specs.Event as event;
 ghost use Rattle.run_record.specs.Event.{Event};

@@ -5,7 +5,7 @@ ghost use Rattle.std.specs.List.{flat_map};
 ghost use Rattle.settle_checks.specs.Crossings.{crossing_in, crossing_out};
 
 use crate::summing::flows::Flow;
-use port_values::{Pid, SignalId};
+use port_model::{Pid, SignalId};
 use std::alloc::AllocError;
 
 /// A signal on its way: who sent it, to which instance, its name, and when it was sent or taken.

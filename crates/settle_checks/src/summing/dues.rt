@@ -6,7 +6,7 @@ ghost use Rattle.run_record.specs.Event.{Event};
 ghost use Rattle.settle_meaning.specs.Timers.{AreDue};
 ghost use Rattle.settle_checks.specs.Dues.{AreTimesAfter, IsDueNext, IsGotNext, IsWith, time_of};
 
-use port_values::{SignalId, TimerKey, Value, Values};
+use port_model::{SignalId, TimerKey, Value, Values};
 use run_record::{Entry, Origin, Record, Stimulus};
 use std::alloc::{AllocError, Global};
 use std::collections::BTreeMap;
@@ -35,7 +35,7 @@ struct Dues {
 
 impl Model for Dues {
     ghost use Rattle.std.specs.Prelude.{List, ℕ};
-    ghost use Rattle.port_values.specs.declared.timer_key.TimerKey.{TimerKey};
+    ghost use Rattle.port_model.specs.declared.values.timer_key.TimerKey.{TimerKey};
 
     ghost Value = { List (TimerKey × ℕ) };
 

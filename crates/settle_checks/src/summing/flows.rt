@@ -1,12 +1,12 @@
 //! Signals that passed between an instance and others, counted.
 
 ghost use Rattle.std.specs.Prelude.{◌≡◌, ◌+◌, ◌++◌, ◌∷◌, [], List, IfOk, IfSome, IsTrue, OnErr, OnOk, if◌then◌else◌, length};
-ghost use Rattle.port_values.specs.Same.{same_pid};
-ghost use Rattle.port_values.specs.declared.pid.Pid.TheVariants.{Of};
+ghost use Rattle.port_model.specs.Same.{same_pid};
+ghost use Rattle.port_model.specs.declared.values.pid.Pid.TheVariants.{Of};
 ghost use Rattle.settle_checks.specs.Flows.{AreFlows, IsPlaceOf, counted, is_with};
 ghost use Rattle.settle_checks.specs.declared.summing.flows.Pass.{Pass};
 
-use port_values::{Pid, SignalId};
+use port_model::{Pid, SignalId};
 use std::alloc::{AllocError, Global};
 use std::marker::Model;
 

@@ -1,7 +1,7 @@
 //! What is left of what a sender sends to an instance, if the first signals are missing.
 
 ghost use Rattle.std.specs.Prelude.{◌≡◌, ◌++◌, ◌∷◌, [], ℕ, IfOk, IfSome, IsTrue, List, OnOk};
-ghost use Rattle.port_values.specs.declared.value.Value.{Value};
+ghost use Rattle.port_model.specs.declared.values.value.Value.{Value};
 ghost use Rattle.run_record.specs.Entry.{event_of};
 ghost use Rattle.run_record.specs.Event.{Event};
 ghost use Rattle.settle_checks.specs.Flows.{sent_passes};

@@ -11,7 +11,7 @@ ghost use Rattle.settle_meaning.specs.Starts.{AreWithin, IsWithin};
 ghost use Rattle.settle_checks.specs.Summary.{AreSummaries, IsSummary};
 
 use crate::summing::summary::Summary;
-use port_values::Pid;
+use port_model::Pid;
 use run_record::Record;
 use sdl_system::{Process, ProcessId, System};
 use std::alloc::{AllocError, Global};

@@ -8,7 +8,7 @@ ghost use Rattle.settle_checks.specs.Summary.{AreSummaries, child_of};
 use crate::summing::creating::Birth;
 use crate::summing::flows::is_same_pid;
 use crate::summing::summary::Summary;
-use port_values::Pid;
+use port_model::Pid;
 use run_evaluation::Identity;
 use run_record::Record;
 use sdl_system::{Process, ProcessId, System};

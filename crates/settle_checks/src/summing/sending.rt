@@ -1,7 +1,7 @@
 //! What a record sends.
 
 ghost use Rattle.std.specs.Prelude.{◌≡◌, ◌++◌, ◌∷◌, [], List, IfOk, IsTrue, OnErr, OnOk, option_to_list};
-ghost use Rattle.port_values.specs.declared.value.Value.{Value};
+ghost use Rattle.port_model.specs.declared.values.value.Value.{Value};
 ghost use Rattle.run_record.specs.Entry.{event_of};
 ghost use Rattle.run_record.specs.Event.{Event};
 ghost use Rattle.settle_checks.specs.Events.{routed_in};
@@ -11,7 +11,7 @@ ghost use Rattle.settle_checks.specs.Summary.{HasWith, IsSending};
 
 use crate::summing::flows::{Flows, Pass, is_same_pid};
 use crate::targets::Routed;
-use port_values::Pid;
+use port_model::Pid;
 use run_record::Entry;
 use sdl_system::{Dest, ProcessId, Source, Target};
 use std::alloc::{AllocError, Global};

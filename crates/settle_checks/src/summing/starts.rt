@@ -9,7 +9,7 @@ ghost use Rattle.settle_checks.specs.Summary.{AreSummaries, IsSummary};
 use crate::summing::creating::Birth;
 use crate::summing::places::place_of;
 use crate::summing::summary::Summary;
-use port_values::Pid;
+use port_model::Pid;
 use run_record::Record;
 
 /// Whether who is there at the beginning starts at time 0, and each other instance has a greater number than its creator

@@ -1,7 +1,7 @@
 //! The summary of a record.
 
 ghost use Rattle.std.specs.Prelude.{◌++◌, ◌∷◌, [], List, IfOk, IfSome, IsTrue};
-ghost use Rattle.port_values.specs.declared.value.Value.{Value};
+ghost use Rattle.port_model.specs.declared.values.value.Value.{Value};
 ghost use Rattle.run_record.specs.Entry.{event_of};
 ghost use Rattle.run_record.specs.Event.{Event};
 ghost use Rattle.sdl_system.specs.declared.id.ProcessId.{ProcessId};

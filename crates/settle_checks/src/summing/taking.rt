@@ -1,7 +1,7 @@
 //! What a record takes.
 
 ghost use Rattle.std.specs.Prelude.{◌++◌, ◌∷◌, [], List, IfOk, IsTrue};
-ghost use Rattle.port_values.specs.declared.value.Value.{Value};
+ghost use Rattle.port_model.specs.declared.values.value.Value.{Value};
 ghost use Rattle.run_record.specs.Entry.{event_of};
 ghost use Rattle.run_record.specs.Event as event;
 ghost use Rattle.run_record.specs.Event.{Event};
@@ -9,7 +9,7 @@ ghost use Rattle.run_record.specs.Entry.{got_of};
 ghost use Rattle.settle_checks.specs.Summary.{IsTaking, TakesAs};
 
 use crate::summing::flows::{Flows, Pass};
-use port_values::Pid;
+use port_model::Pid;
 use run_record::{Entry, Origin, Stimulus};
 use std::alloc::{AllocError, Global};
 

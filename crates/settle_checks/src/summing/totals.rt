@@ -4,7 +4,7 @@ ghost use Rattle.std.specs.Prelude.{◌≡◌, IfOk, IfSome, IsTrue};
 ghost use Rattle.settle_checks.specs.Totals.{AreTotals, IsOneMore, total};
 
 use crate::summing::flows::Flow;
-use port_values::Pid;
+use port_model::Pid;
 use std::alloc::{AllocError, Global};
 use std::collections::BTreeMap;
 use std::marker::Model;

@@ -4,9 +4,10 @@ ghost use Rattle.std.specs.Prelude.{◌≡◌, []};
 
 use input_port::birth::port;
 use input_port::{NewPort, Owner, Port, Sender};
-use port_inbox::{Entry, Fuse};
-use port_model::{Class, Got, PortError, Selection, Taken};
-use port_values::{Item, Pid, SignalId, Ticks, TimerKey, Value, Values};
+use port_model::{
+    Class, Entry, Fuse, Got, Item, Pid, PortError, Selection, SignalId, Taken, Ticks, TimerKey,
+    Value, Values,
+};
 use std::alloc::Global;
 use std::process::Abort;
 use std::sync::Wait;

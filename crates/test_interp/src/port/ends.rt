@@ -8,8 +8,7 @@ use crate::port::calls::{
 };
 use input_port::birth::port;
 use input_port::{Held, NewPort, Owner, Port, Sender};
-use port_model::Class;
-use port_values::Ticks;
+use port_model::{Class, Ticks};
 use std::alloc::Global;
 use std::process::Abort;
 use std::sync::Wait;

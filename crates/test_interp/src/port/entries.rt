@@ -2,7 +2,7 @@
 
 ghost use Rattle.std.specs.Prelude.{◌≡◌, ◌<◌, ◌≤◌};
 
-use port_values::Pid;
+use port_model::Pid;
 use sdl_system::ProcessId;
 use std::thread;
 use std::thread::Threads;

@@ -5,9 +5,7 @@ ghost use Rattle.std.specs.Prelude.{◌≡◌, true};
 use crate::port::calls::{are_left, consumed, item, key, put, selection, with_sender};
 use input_port::birth::port;
 use input_port::{Held, NewPort};
-use port_inbox::{Alone, Fuse, Inbox};
-use port_model::Class;
-use port_values::Ticks;
+use port_model::{Alone, Class, Fuse, Inbox, Ticks};
 use std::alloc::Global;
 use std::process::Abort;
 

@@ -1,10 +1,10 @@
 //! What goes into a port from an instance, and that it is drawn there.
 
 ghost use Rattle.std.specs.Prelude.{◌≡◌};
-ghost use Rattle.port_values.specs.declared.pid.Pid.TheVariants.{Of};
+ghost use Rattle.port_model.specs.declared.values.pid.Pid.TheVariants.{Of};
 
 use input_port::{Owner, Port, Sender};
-use port_values::{Item, Pid, SignalId, Values};
+use port_model::{Item, Pid, SignalId, Values};
 use std::alloc::Global;
 use std::process::Abort;
 use std::sync::Wait;

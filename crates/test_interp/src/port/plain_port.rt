@@ -1,8 +1,10 @@
 //! The port of one thread: puts, takes, timers, and what waits at the end.
 
 use crate::port::calls::{item, selection};
-use port_model::{Class, Got, PlainPort, PortParts, Taken};
-use port_values::{Arm, Item, Pid, SignalId, Ticks, TimerKey, Value, Values};
+use port_model::{
+    Arm, Class, Got, Item, Pid, PlainPort, PortParts, SignalId, Taken, Ticks, TimerKey, Value,
+    Values,
+};
 use std::alloc::Global;
 use std::process::Abort;
 

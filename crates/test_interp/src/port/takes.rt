@@ -6,9 +6,7 @@ use crate::port::calls::{
     expect_all, expect_nothing, expect_takes, expire, key, put, selection, with_sender,
 };
 use input_port::Owner;
-use port_inbox::Fuse;
-use port_model::Class;
-use port_values::Ticks;
+use port_model::{Class, Fuse, Ticks};
 use std::alloc::Global;
 use std::process::Abort;
 

@@ -2,8 +2,7 @@
 
 ghost use Rattle.std.specs.Prelude.{◌≡◌, ◌≤◌, true};
 
-use port_inbox::{Alone, Fuse, Inbox};
-use port_values::{SignalId, Ticks, TimerKey, Values};
+use port_model::{Alone, Fuse, Inbox, SignalId, Ticks, TimerKey, Values};
 use sdl_timers::{NewClock, Reader, SpentFuses, Ticker, Wheel, clock};
 use std::alloc::Global;
 use std::process::Abort;

@@ -1,6 +1,6 @@
 //! The text of values.
 
-use port_values::{Pid, Value, Values};
+use port_model::{Pid, Value, Values};
 use std::alloc::Global;
 use std::process::Abort;
 

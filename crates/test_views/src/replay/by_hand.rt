@@ -4,7 +4,7 @@ use crate::replay::written::Did::{
     Create, Cut, Fail, FailWaiting, Rest, Send, Start, Take, TakeFirst, TakeOfEnv, Tick, Wait,
 };
 use crate::replay::written::{Kept, Written, expect_order};
-use port_values::{Pid, SignalId};
+use port_model::{Pid, SignalId};
 use run_record::Failure;
 use sdl_system::{Dest, ProcessId};
 use std::alloc::{AllocError, Global};

@@ -4,9 +4,7 @@ ghost use Rattle.std.specs.Prelude.{◌≤◌, IfOk, length};
 ghost use Rattle.run_record.specs.Event.{values_got};
 
 use crate::replay::given::{Given, make_given};
-use port_model::Got;
-use port_values::{Item, Pid, SignalId, Ticks, Value, Values};
-use run_course::{Course, SenderInto};
+use port_model::{Course, Got, Item, Pid, SenderInto, SignalId, Ticks, Value, Values};
 use run_record::{Failure, Record, Report};
 use sdl_system::{Dest, ProcessId, StateId, Target};
 use std::alloc::{AllocError, Global};

@@ -1,6 +1,6 @@
 //! What is entered for an instance.
 
-use port_values::Pid;
+use port_model::Pid;
 use sdl_system::ProcessId;
 
 /// The entry of an instance: all that there is to know of it, from its create on.

@@ -1,6 +1,6 @@
 //! Why a signal is not put.
 
-use port_values::Item;
+use port_model::Item;
 
 /// Why a signal is not put into the port of an instance. It comes back.
 #[derive(Drop)]

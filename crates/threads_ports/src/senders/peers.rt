@@ -2,10 +2,10 @@
 
 ghost use Rattle.std.specs.Map.{keys_of};
 ghost use Rattle.std.specs.Prelude.{◌≡◌, ◌==◌, ◌≤◌, ◌++◌, ◌∷◌, [], ℕ, List, None, Some, false, length, slice_get, true, if◌then◌else◌, IfOk, IfSome, MatchOption, MatchResult, OnOk};
-ghost use Rattle.port_inbox.specs.Calls.{ComesBack};
-ghost use Rattle.port_inbox.specs.declared.entry.Entry.TheVariants.{Signal, Timer};
-ghost use Rattle.port_values.specs.declared.pid.Pid.{Pid};
-ghost use Rattle.port_values.specs.declared.pid.Pid.TheVariants.{Of};
+ghost use Rattle.port_model.specs.Calls.{ComesBack};
+ghost use Rattle.port_model.specs.declared.inbox.entry.Entry.TheVariants.{Signal, Timer};
+ghost use Rattle.port_model.specs.declared.values.pid.Pid.{Pid};
+ghost use Rattle.port_model.specs.declared.values.pid.Pid.TheVariants.{Of};
 ghost use Rattle.threads_ports.specs.Peers.{is_known, put_by, put_to, senders_into, sender_to, with_signal, GivesBack, PutsTo};
 ghost use Rattle.threads_ports.specs.Peers.{AreLast, ArePeers, ArePeersOf};
 ghost use Rattle.run_semantics.specs.Sent.{output_of};
@@ -16,10 +16,7 @@ ghost use Rattle.sdl_system.specs.declared.route.Dest.{Dest};
 use crate::senders::{NotPut, Peer, Run};
 use indexmap::IndexMap;
 use input_port::{Port, Sender};
-use port_inbox::{Fuse, Refused};
-use port_model::PortError;
-use port_values::{Item, Ticks};
-use run_course::SenderInto;
+use port_model::{Fuse, Item, PortError, Refused, SenderInto, Ticks};
 use std::alloc::{AllocError, AllocFailed, Global};
 use std::marker::{Model, PhantomData};
 use std::sync::Wait;

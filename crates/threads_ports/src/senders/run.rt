@@ -23,7 +23,7 @@ pub trait Run {
 
 impl Run for Brand {
     ghost use Rattle.std.specs.Prelude.{None};
-    ghost use Rattle.port_inbox.specs.Ends.{no_port};
+    ghost use Rattle.port_model.specs.Ends.{no_port};
     ghost use Rattle.threads_ports.specs.Run.{no_table};
 
     ghost system = { None };

@@ -9,7 +9,7 @@ use crate::picture::markup::push_escaped;
 use crate::picture::pages::{push_body, push_description, push_heads};
 use crate::picture::pixels::Pixels;
 use crate::picture::style::{PAGE_STYLE, STYLE, TIPS};
-use port_values::Ticks;
+use port_model::Ticks;
 use sdl_report::{WriteFault, write_text};
 use std::alloc::{AllocError, Global};
 use std::io::Write;

@@ -8,7 +8,7 @@ use crate::covered::section::Material;
 use crate::goals::Awaited;
 use crate::point::{Passage, Point};
 use build_definitions::next_number;
-use port_values::SignalId;
+use port_model::SignalId;
 use sdl_system::{ProcessId, StateId, System};
 use std::alloc::AllocError;
 

@@ -6,7 +6,7 @@ ghost use Rattle.sdl_lex.specs.Place.{place_text};
 ghost use Rattle.view_coverage.specs.Sections.{awaited_text, in_text, input_text, name_text, signal_text};
 
 use crate::goals::{Awaited, Urgency};
-use port_values::SignalId;
+use port_model::SignalId;
 use sdl_lex::Place;
 use sdl_system::{StateId, System};
 use sdl_tree::Name;

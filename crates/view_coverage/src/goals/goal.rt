@@ -1,6 +1,6 @@
 //! What there is to cover.
 
-use port_values::SignalId;
+use port_model::SignalId;
 use sdl_lex::Place;
 use sdl_system::{ProcessId, StateId};
 use sdl_tree::Name;

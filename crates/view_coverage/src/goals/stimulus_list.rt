@@ -10,7 +10,7 @@ use crate::goals::goal_list::GoalList;
 use crate::goals::part_states::states_in;
 use build_expressions::SignalMeaning;
 use build_names::Outward;
-use port_values::SignalId;
+use port_model::SignalId;
 use sdl_lex::Place;
 use sdl_system::StateId;
 use sdl_tree::{BodyPart, Input, Inputs, Name, Stimulus};

@@ -4,7 +4,7 @@ ghost use Rattle.std.specs.Prelude.{◌≡◌, IfOk};
 ghost use Rattle.run_record.specs.Told.{event_told};
 ghost use Rattle.view_coverage.specs.Marks.{mark_of, variable_in};
 
-use port_values::Value;
+use port_model::Value;
 use run_record::{Entry, Told};
 use sdl_system::{ProcessId, System, VariableId};
 use std::alloc::AllocError;

@@ -7,7 +7,7 @@ ghost use Rattle.view_coverage.specs.Marks.{IsMarkedRun, deeds, is_no_mark, unma
 
 use crate::marks::entry::{mark_of, variable_in};
 use crate::marks::same_entry::same_entry;
-use port_values::Value;
+use port_model::Value;
 use run_record::{Reader, Record, Report, Told};
 use sdl_system::{System, VariableId};
 

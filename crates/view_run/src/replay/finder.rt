@@ -4,8 +4,7 @@ ghost use Rattle.std.specs.Prelude.{◌≡◌, ◌↔◌, IfOk, IsTrue, Some, fa
 ghost use Rattle.view_run.specs.Finder.{IsEndOf, IsStepAt, first_left, is_told, job_of, job_with};
 ghost use Rattle.run_tracks.specs.Tracks.{at_number};
 
-use port_values::Ticks;
-use run_course::Course;
+use port_model::{Course, Ticks};
 use run_order::{Answers, Chronicle, Ending, Move};
 use run_record::Report;
 use run_tracks::{Tracks, WaitList, WorkList};

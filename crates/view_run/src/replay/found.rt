@@ -4,7 +4,7 @@ ghost use Rattle.std.specs.Prelude.{IfOk};
 ghost use Rattle.view_run.specs.Found.{IsFound};
 
 use crate::replay::finder::Finder;
-use run_course::Course;
+use port_model::Course;
 use run_order::Ending;
 use run_record::Report;
 use sdl_script::Script;

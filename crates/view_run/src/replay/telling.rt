@@ -5,7 +5,7 @@ ghost use Rattle.view_run.specs.Finder.{job_of};
 ghost use Rattle.view_run.specs.Telling.{IsAccess, is_pid, next_kind};
 
 use crate::replay::finder::Finder;
-use port_values::{Pid, Ticks};
+use port_model::{Pid, Ticks};
 use run_order::Pending;
 use run_tracks::Turn;
 use sdl_system::{Dest, Target};

@@ -8,7 +8,7 @@ ghost use Rattle.view_text.specs.JsonText.{closing_json, end_json, instance_json
 ghost use Rattle.view_text.specs.JsonValue.{key, pid_json, quoted};
 
 use crate::json::pieces::{push_key, push_pid, push_text, push_truth};
-use port_values::Pid;
+use port_model::Pid;
 use run_record::{Entry, Record, Report};
 use sdl_report::{process_name, push_number, state_name};
 use sdl_system::System;

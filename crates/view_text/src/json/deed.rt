@@ -13,7 +13,7 @@ use crate::json::pieces::{
     push_arrow, push_count, push_fate, push_key, push_quoted, push_target, push_value, push_values,
 };
 use crate::walk::Step;
-use port_values::{SignalId, Value};
+use port_model::{SignalId, Value};
 use run_record::{Entry, Record};
 use sdl_report::{process_name, push_number, signal_name, state_name, variable_name};
 use sdl_system::{ProcessId, System, Target, VariableId};

@@ -8,7 +8,7 @@ ghost use Rattle.view_text.specs.JsonValue.{arrow_json, key, pid_json};
 
 use crate::json::pieces::{push_arrow, push_count, push_key, push_pid, push_text, push_values};
 use crate::walk::Step;
-use port_values::{Pid, SignalId, Value};
+use port_model::{Pid, SignalId, Value};
 use run_record::{Entry, Record, Stimulus};
 use sdl_report::{process_name, push_number, signal_name};
 use sdl_system::System;

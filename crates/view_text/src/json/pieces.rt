@@ -6,7 +6,7 @@ ghost use Rattle.std.specs.String.{string_bytes};
 ghost use Rattle.view_text.specs.JsonValue.{arrow_json, fate_json, key, number_json, pid_json, quoted, target_json, truth_json, value_json, values_json};
 
 use crate::fate::Fate;
-use port_values::{Pid, Value};
+use port_model::{Pid, Value};
 use sdl_report::{push_number, push_signed};
 use sdl_system::Target;
 use std::alloc::AllocError;

@@ -4,7 +4,7 @@ ghost use Rattle.std.specs.Prelude.{◌≡◌, [], ◌++◌, map, OnErr, OnOk};
 ghost use Rattle.std.specs.List.{AllByRecursion};
 ghost use Rattle.std.specs.String.{string_bytes};
 ghost use Rattle.std.specs.Io.KnownBytes.{Appends};
-ghost use Rattle.port_values.specs.Value.{ValueList};
+ghost use Rattle.port_model.specs.Value.{ValueList};
 ghost use Rattle.run_record.specs.Entry.{event_of};
 ghost use Rattle.sdl_report.specs.Gathered.{BreaksOff};
 ghost use Rattle.view_text.specs.JsonText.{after_json, is_closing, json_text, part_json};

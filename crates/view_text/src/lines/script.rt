@@ -2,7 +2,7 @@
 
 ghost use Rattle.std.specs.Prelude.{◌≡◌, ◌++◌, IfOk, OnOk};
 ghost use Rattle.std.specs.String.{string_bytes};
-ghost use Rattle.port_values.specs.Value.{ValueList};
+ghost use Rattle.port_model.specs.Value.{ValueList};
 ghost use Rattle.run_record.specs.Entry.{got_of};
 ghost use Rattle.run_record.specs.Told.{event_told};
 ghost use Rattle.view_text.specs.LinesText.{heard, heard_in, is_env, is_heard, script_text};

@@ -12,7 +12,7 @@ use crate::fate::{Fate, fate_of};
 use crate::lost::lost_fate;
 use crate::sending::Sending;
 use crate::walk::Step;
-use port_values::{SignalId, Value};
+use port_model::{SignalId, Value};
 use run_record::{Entry, Record, Stimulus};
 use sdl_report::{process_name, push_event, push_number, push_signal, push_stimulus, push_target};
 use sdl_system::{System, Target};

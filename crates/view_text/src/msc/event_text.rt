@@ -2,7 +2,7 @@
 
 ghost use Rattle.std.specs.Prelude.{◌≡◌, ◌++◌, codes, OnOk};
 ghost use Rattle.std.specs.String.{string_bytes};
-ghost use Rattle.port_values.specs.Text.{value_text};
+ghost use Rattle.port_model.specs.Text.{value_text};
 ghost use Rattle.run_record.specs.Entry.{event_of, got_of};
 ghost use Rattle.sdl_report.specs.Name.{variable_name};
 ghost use Rattle.view_text.specs.EventText.{at_text, closed_text, created_text, due_text, entered_text, event_text, failed_at_text, failed_text, message_text, output_text, party_name, provided_text, reached_text, receiver_text, refused_text, reset_text, sender_name, set_text, start_text, taken_text};
@@ -12,7 +12,7 @@ use crate::fate::{Fate, fate_of};
 use crate::msc::names::{
     Cast, push_instance_name, push_message, push_party_name, push_sender_name, push_word,
 };
-use port_values::{Pid, SignalId, Value};
+use port_model::{Pid, SignalId, Value};
 use run_record::{Entry, Failure, Origin, Record, Stimulus};
 use sdl_report::{process_name, push_number, push_value, state_name, variable_name};
 use sdl_system::{ProcessId, System, Target};

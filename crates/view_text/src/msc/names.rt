@@ -5,7 +5,7 @@ ghost use Rattle.std.specs.String.{string_bytes};
 ghost use Rattle.view_text.specs.EventText.{ends_with_mark, gets_mark, instance_name, message_name, message_text, party_name, sender_name, word};
 
 use crate::msc::keyword::is_keyword;
-use port_values::{Pid, SignalId, Value};
+use port_model::{Pid, SignalId, Value};
 use run_record::Report;
 use sdl_report::{process_name, push_number, push_values, record_of, signal_name};
 use sdl_system::{ProcessId, System};

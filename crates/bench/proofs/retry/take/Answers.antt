@@ -1,4 +1,4 @@
-use Rattle.port_queue.proofs.Drawing.{draws_more}
+use Rattle.input_port.proofs.QueueDrawing.{draws_more}
 use Rattle.bench.proofs.retry.take.Goals as goal
 
 pub returns-in-Err-take-clause-refused : goal.returns-in-Err-take-clause-refused

@@ -1,6 +1,6 @@
 use Rattle.std.proofs.Common.{◌≡◌, ◌≢◌, ◌+◌, ◌/◌, ◌%◌, ℕ, arith, subst}
 use Rattle.std.proofs.lemmas.Option.{slice_get_within}
-use Rattle.port_values.specs.declared.item.SignalId.{SignalId}
+use Rattle.port_model.specs.declared.values.item.SignalId.{SignalId}
 use Rattle.build_routes.specs.Entries.{WordTells}
 use Rattle.build_routes.proofs.ReceiverLemmas.{entry_of_word}
 use Rattle.build_routes.proofs.TableLemmas.{keeps_on, row_more}

@@ -1,5 +1,5 @@
 use Rattle.std.proofs.Common.{◌≡◌, ◌↔◌, ◌⊎◌, ◌<◌, ◌∙◌, Contains, ap, arith, length, subst, sym, true}
-use Rattle.port_values.specs.declared.item.SignalId.{SignalId}
+use Rattle.port_model.specs.declared.values.item.SignalId.{SignalId}
 use Rattle.sdl_system.specs.Signal.{is_member}
 use Rattle.build_routes.specs.Each.{ForSome}
 use Rattle.build_routes.specs.SignalLists.{HasSignal}

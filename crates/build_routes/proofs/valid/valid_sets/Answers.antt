@@ -1,6 +1,6 @@
 use Rattle.std.proofs.Common.{◌≡◌, ◌<◌, ◌↔◌, Some, ap, arith, get_or, length, slice_get, subst, true}
 use Rattle.std.proofs.lemmas.Option.{slice_get-get_or}
-use Rattle.port_values.specs.declared.item.SignalId.{SignalId}
+use Rattle.port_model.specs.declared.values.item.SignalId.{SignalId}
 use Rattle.sdl_system.specs.Signal.{is_member}
 use Rattle.sdl_system.specs.declared.id.ProcessId.{ProcessId}
 use Rattle.build_routes.specs.Valid.{IsValid}

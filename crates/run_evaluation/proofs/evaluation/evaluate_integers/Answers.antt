@@ -1,7 +1,7 @@
 use Rattle.std.proofs.Common.{◌≡◌, ◌∙◌, refl, rules, sym, tests}
 use Rattle.std.proofs.lemmas.Int.{to_z-of_z}
 use Rattle.std.proofs.lemmas.Option.{IfSome_then}
-use Rattle.port_values.specs.declared.value.Value.TheVariants.{Int}
+use Rattle.port_model.specs.declared.values.value.Value.TheVariants.{Int}
 use Rattle.run_evaluation.proofs.ChainLemmas.{pair_value}
 use Rattle.run_evaluation.specs.Knowledge.{environment_of}
 use Rattle.run_evaluation.specs.Value.{given}

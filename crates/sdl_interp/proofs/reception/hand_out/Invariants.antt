@@ -1,7 +1,7 @@
 use Rattle.std.proofs.Common.{◌≡◌, Option}
 use Rattle.std.specs.Iterator.Adapters.{zip_first, zip_second}
 use Rattle.std.specs.Slice.Iter.{iter_rest}
-use Rattle.port_inbox.specs.Ends.{OwnerState}
+use Rattle.port_model.specs.Ends.{OwnerState}
 use Rattle.sdl_interp.specs.Stimulus.{HasVariables}
 use Rattle.run_semantics.specs.Goes.{AreInner, Goes}
 use Rattle.run_semantics.specs.ControlPoint.{Definition, Receiving}

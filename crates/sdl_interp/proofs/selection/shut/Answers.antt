@@ -1,7 +1,7 @@
 use Rattle.std.proofs.Common.{◌∙◌, Global, List, Vec, ap, arith, refl, subst, sym, take, true≢false}
 use Rattle.std.proofs.lemmas.List.{take_all}
 use Rattle.std.specs.List.{Contains}
-use Rattle.port_values.specs.declared.item.SignalId.{SignalId}
+use Rattle.port_model.specs.declared.values.item.SignalId.{SignalId}
 use Rattle.port_model.specs.declared.selection.Class.{Class}
 use Rattle.sdl_interp.proofs.SelectionLemmas.{named_none, named_some, passes_rest, saves_listed, saves_none, saves_rest}
 use Rattle.sdl_system.specs.Soundness.{IsEnabled}

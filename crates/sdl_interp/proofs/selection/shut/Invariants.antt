@@ -1,6 +1,6 @@
 use Rattle.std.proofs.Common.{take}
 use Rattle.std.specs.List.{Contains}
-use Rattle.port_values.specs.declared.item.SignalId.{SignalId}
+use Rattle.port_model.specs.declared.values.item.SignalId.{SignalId}
 use Rattle.sdl_interp.proofs.SelectionLemmas.{IsRest, Saves}
 use Rattle.sdl_interp.proofs.selection.shut.Given as goal
 

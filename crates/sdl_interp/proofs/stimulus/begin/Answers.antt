@@ -1,5 +1,5 @@
 use Rattle.std.proofs.Common.{ap, subst, refl, Some, List, Option}
-use Rattle.port_values.specs.declared.value.Value.{Value}
+use Rattle.port_model.specs.declared.values.value.Value.{Value}
 use Rattle.run_record.specs.Event.{values_got}
 use Rattle.run_semantics.proofs.Goes.{goes_failed, goes_on, goes_until}
 use Rattle.run_semantics.specs.Goes.{AreInner, Goes, GoesWrong}

@@ -1,7 +1,7 @@
 use Rattle.std.proofs.Common.{◌≡◌, ◌∙◌, sym, ap, subst, refl, Some}
 use Rattle.std.proofs.lemmas.Result.{err_from_is_err_and}
 use Rattle.port_model.specs.Take as port
-use Rattle.port_values.specs.declared.item.SignalId.{SignalId}
+use Rattle.port_model.specs.declared.values.item.SignalId.{SignalId}
 use Rattle.port_model.specs.declared.taken.Taken.TheVariants.{Consumed}
 use Rattle.sdl_interp.proofs.First.{fails_recorded}
 use Rattle.sdl_interp.proofs.Reacting.{answers_input, answers_priority}

@@ -1,5 +1,5 @@
 use Rattle.std.proofs.Common.{ap, Some, true}
-use Rattle.port_values.specs.declared.pid.Pid.TheVariants.{Of}
+use Rattle.port_model.specs.declared.values.pid.Pid.TheVariants.{Of}
 use Rattle.run_evaluation.specs.Environment.{environment}
 use Rattle.sdl_interp.proofs.Bodies.{found_begins}
 use Rattle.sdl_interp.proofs.First.{provides}

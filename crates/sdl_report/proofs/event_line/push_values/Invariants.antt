@@ -1,6 +1,6 @@
 use Rattle.std.proofs.Common.{◌≡◌, ◌++◌, take}
 use Rattle.std.specs.String.{string_bytes}
-use Rattle.port_values.specs.Text.{more_text}
+use Rattle.port_model.specs.Text.{more_text}
 use Rattle.sdl_report.proofs.event_line.push_values.Given as goal
 
 abbrev pub invariant-loop-value : goal.invariant-loop-value

@@ -1,5 +1,5 @@
 use Rattle.std.proofs.Common.{◌≡◌, ◌+◌, ◌*◌, ◌≤◌, ◌++◌, take}
-use Rattle.port_values.specs.Text.{more_text}
+use Rattle.port_model.specs.Text.{more_text}
 use Rattle.sdl_report.proofs.put.put_values.Given as goal
 
 abbrev pub invariant-loop-value : goal.invariant-loop-value

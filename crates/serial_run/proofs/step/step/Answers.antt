@@ -2,7 +2,7 @@ use Rattle.std.proofs.Common.{◌≡◌, ◌≢◌, ◌∙◌, ◌-◌, ◌<◌,
 use Rattle.std.specs.Prelude.{Contains, ◌↔◌}
 use Rattle.std.proofs.lemmas.List.{length-set}
 use Rattle.std.proofs.lemmas.Option.{slice_get_read, slice_get_within}
-use Rattle.port_inbox.specs.Ends.{OwnerState}
+use Rattle.port_model.specs.Ends.{OwnerState}
 use Rattle.serial_run.specs.StepWorld.{AreNumbered, effect_of, world_of}
 use Rattle.serial_order.specs.RunState.{world_at, living_of, is_ended}
 use Rattle.serial_run.specs.Serial.{IsOfSystem, state_of}

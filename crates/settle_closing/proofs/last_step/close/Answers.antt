@@ -2,7 +2,7 @@
 use Rattle.std.proofs.Common.{◌≡◌, ◌∙◌, ap, refl, subst, sym}
 use Rattle.std.proofs.lemmas.Bool.{false≢true}
 use Rattle.std.specs.Global.{Box}
-use Rattle.port_inbox.specs.Ends.{OwnerState}
+use Rattle.port_model.specs.Ends.{OwnerState}
 use Rattle.settle_closing.proofs.Stepping.{closed_rested}
 use Rattle.settle_closing.proofs.last_step.close.Goals as goal
 use Rattle.settle_closing.proofs.last_step.close.Goals.{else-whole, then-whole+in_ok-rest}

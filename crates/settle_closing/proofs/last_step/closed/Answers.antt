@@ -1,6 +1,6 @@
 -- What is known of the instance as it is closed is kept.
 use Rattle.std.proofs.Common.{◌∙◌, List, subst, sym, true}
-use Rattle.port_values.specs.declared.value.Value.{Value}
+use Rattle.port_model.specs.declared.values.value.Value.{Value}
 use Rattle.settle_closing.proofs.Stepping.{is_left}
 use Rattle.settle_closing.proofs.last_step.closed.Goals as goal
 use Rattle.threads_instance.specs.RunBy.{HasRunBy}

@@ -1,6 +1,6 @@
 use Rattle.std.proofs.Common.{◌≡◌, ◌<◌, ◌∙◌, ◌∷◌, ◌++◌, [], ap, append_assoc, arith, List, rules, subst, sym}
 use Rattle.std.proofs.lemmas.List.Elements.{All-cons, All-same}
-use Rattle.port_inbox.specs.declared.entry.Fuse.{Fuse}
+use Rattle.port_model.specs.declared.inbox.entry.Fuse.{Fuse}
 use Rattle.serial_sweeps.specs.Sweeps.{IsNoFuseBefore}
 use Rattle.settle_rest.specs.Woken.{with_fuses}
 use Rattle.settle_rest.proofs.Arming.{none_before_all, with_last}

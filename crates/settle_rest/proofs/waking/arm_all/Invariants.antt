@@ -1,5 +1,5 @@
 use Rattle.std.proofs.Common.{◌≡◌, ◌<◌, ◌++◌, List, All, length}
-use Rattle.port_inbox.specs.declared.entry.Fuse.{Fuse}
+use Rattle.port_model.specs.declared.inbox.entry.Fuse.{Fuse}
 use Rattle.settle_rest.specs.Woken.{with_fuses}
 use Rattle.settle_rest.proofs.waking.arm_all.Given as goal
 

@@ -5,9 +5,9 @@ use Rattle.std.specs.List.{AllZip}
 use Rattle.std.proofs.lemmas.Iterator.Adapters.{YieldsList-from_vec}
 use Rattle.std.proofs.lemmas.Iterator.Consumers.{YieldsList-end}
 use Rattle.std.proofs.lemmas.Slice.Zip.{all_zipped_more}
-use Rattle.port_inbox.specs.Ends.{OwnerState}
-use Rattle.port_queue.specs.Kept.{senders_of}
-use Rattle.port_values.specs.declared.item.Item.{Item}
+use Rattle.port_model.specs.Ends.{OwnerState}
+use Rattle.input_port.specs.Kept.{senders_of}
+use Rattle.port_model.specs.declared.values.item.Item.{Item}
 use Rattle.settle_checks.specs.Gathering.{CountedState, IsCounted}
 use Rattle.settle_run.specs.Course.{HasPutsOf}
 use Rattle.settle_run.proofs.CourseLemmas.{all_yielded}

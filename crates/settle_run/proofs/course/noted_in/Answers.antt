@@ -2,7 +2,7 @@
 use Rattle.std.proofs.Common.{◌∙◌, subst, sym, List}
 use Rattle.std.proofs.lemmas.Iterator.Adapters.{YieldsList-from_vec}
 use Rattle.std.proofs.lemmas.Iterator.Consumers.{YieldsList-end}
-use Rattle.run_course.specs.declared.course_log.CourseLog.{CourseLog}
+use Rattle.port_model.specs.declared.course.course_log.CourseLog.{CourseLog}
 use Rattle.std.specs.List.{AllZip}
 use Rattle.settle_run.specs.Course.{HasDrawnOf, HasVersionsOf}
 use Rattle.settle_run.proofs.CourseLemmas.{all_yielded, noted_more, noted_none}

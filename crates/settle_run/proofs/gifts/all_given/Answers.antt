@@ -1,6 +1,6 @@
 -- One record more.
 use Rattle.std.proofs.Common.{arith, rules, subst, ℕ, List}
-use Rattle.port_values.specs.declared.value.Value.{Value}
+use Rattle.port_model.specs.declared.values.value.Value.{Value}
 use Rattle.run_record.specs.Record.{RecordValue}
 use Rattle.settle_checks.proofs.AccountLists.{at_done, at_more}
 use Rattle.settle_run.proofs.GiftLemmas.{given_one}

@@ -1,6 +1,6 @@
 -- The values that stand at the place of the number are the same.
 use Rattle.std.proofs.Common.{◌∙◌, arith, get_or, refl, subst, sym}
-use Rattle.port_values.specs.Same.{same_values}
+use Rattle.port_model.specs.Same.{same_values}
 use Rattle.settle_run.proofs.GiftLemmas.{begins_so}
 use Rattle.settle_run.proofs.gifts.begins_with.Goals as goal
 use Rattle.std.specs.Prelude.{IsTrue}

@@ -2,8 +2,8 @@
 use Rattle.std.proofs.Common.{◌≡◌, ◌∙◌, [], ◌∷◌, ◌++◌, List, ap, subst, sym}
 use Rattle.std.proofs.lemmas.Iterator.Adapters.{YieldsList-from_vec}
 use Rattle.std.proofs.lemmas.Iterator.Consumers.{YieldsList-end}
-use Rattle.port_inbox.specs.Ends.{OwnerState}
-use Rattle.port_values.specs.declared.value.Value.{Value}
+use Rattle.port_model.specs.Ends.{OwnerState}
+use Rattle.port_model.specs.declared.values.value.Value.{Value}
 use Rattle.run_record.specs.Record.{RecordValue}
 use Rattle.settle_closing.specs.Left.{ClosingState, IsLeftOfOne}
 use Rattle.settle_closing.specs.PortThen.{then_of}

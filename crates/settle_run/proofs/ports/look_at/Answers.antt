@@ -1,7 +1,7 @@
 -- The count, what the type of the port keeps, and the test.
 use Rattle.std.proofs.Common.{◌≡◌, subst}
 use Rattle.input_port.specs.Held.{IsKept}
-use Rattle.port_inbox.specs.Ends.{OwnerState}
+use Rattle.port_model.specs.Ends.{OwnerState}
 use Rattle.settle_closing.specs.History.{EndsAs}
 use Rattle.settle_run.proofs.ports.look_at.Goals as goal
 

@@ -1,6 +1,6 @@
 use Rattle.std.proofs.Common.{◌≡◌, sym, subst, Bool, List}
-use Rattle.port_inbox.specs.Ends.{OwnerState}
-use Rattle.port_values.specs.declared.value.Value.{Value}
+use Rattle.port_model.specs.Ends.{OwnerState}
+use Rattle.port_model.specs.declared.values.value.Value.{Value}
 use Rattle.run_record.specs.Record.{RecordValue}
 use Rattle.settle_closing.specs.Left.{IsLeftOfOne}
 use Rattle.threads_instance.specs.declared.doings.Child.{Child}

@@ -1,7 +1,7 @@
 -- A copy is put, by the sender that is there or by a new one.
 use Rattle.std.proofs.Common.{◌∙◌, ap, refl, subst, sym, List}
-use Rattle.port_values.specs.declared.item.Item.{Item}
-use Rattle.port_values.specs.declared.value.Value.{Value}
+use Rattle.port_model.specs.declared.values.item.Item.{Item}
+use Rattle.port_model.specs.declared.values.value.Value.{Value}
 use Rattle.threads_shared.proofs.Sent.{gone_nowhere, put_as, sent_later}
 use Rattle.threads_ports.specs.Peers.{GivesBack}
 use Rattle.threads_ports.specs.declared.senders.not_put.NotPut.{NotPut}

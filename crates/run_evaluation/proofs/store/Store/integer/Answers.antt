@@ -1,8 +1,8 @@
 use Rattle.std.proofs.Common.{◌≡◌, ℤ, Ok, Option, None, Some, refl, subst, sym}
 use Rattle.std.specs.Option.{IfSome}
 use Rattle.std.specs.Prelude.{option_and_then}
-use Rattle.port_values.specs.declared.value.Value.{Value}
-use Rattle.port_values.specs.declared.value.Value.TheVariants as value
+use Rattle.port_model.specs.declared.values.value.Value.{Value}
+use Rattle.port_model.specs.declared.values.value.Value.TheVariants as value
 use Rattle.sdl_system.specs.Term.{Term, term_of}
 use Rattle.run_evaluation.proofs.ListLemmas.{variable_is}
 use Rattle.run_evaluation.specs.Environment.{Environment, environment}

@@ -1,5 +1,5 @@
 use Rattle.std.proofs.Common.{◌≡◌, ◌∙◌, [], ap, false, length, refl, subst, true}
-use Rattle.port_inbox.specs.Ends.{OwnerState}
+use Rattle.port_model.specs.Ends.{OwnerState}
 use Rattle.run_order.proofs.Steps.{ended_by, finished, moved_on, never_amiss}
 use Rattle.run_order.proofs.Waiting.{idle_rests, idle_same}
 use Rattle.run_order.proofs.member.Member.step.Goals as goal

@@ -1,6 +1,6 @@
 use Rattle.std.proofs.Common.{◌≡◌, ◌∙◌, ◌+◌, ◌++◌, ◌∷◌, [], ap, arith, length, rules, subst, sym}
-use Rattle.port_inbox.specs.Ends.{single}
-use Rattle.port_values.specs.declared.pid.Pid.TheVariants.{Of}
+use Rattle.port_model.specs.Ends.{single}
+use Rattle.port_model.specs.declared.values.pid.Pid.TheVariants.{Of}
 use Rattle.run_order.proofs.Happenings.{created_none, created_there}
 use Rattle.run_order.proofs.Keeping.{kept_entered, kept_woken}
 use Rattle.run_order.proofs.Orders.{order_is}

@@ -1,5 +1,5 @@
 use Rattle.std.proofs.Common.{◌<◌, ◌↔◌, Contains}
-use Rattle.port_values.specs.declared.item.SignalId.{SignalId}
+use Rattle.port_model.specs.declared.values.item.SignalId.{SignalId}
 use Rattle.build_routes.specs.SignalLists.{StandsFor}
 use Rattle.sdl_build.proofs.context.lists.signals_of.Given as goal
 

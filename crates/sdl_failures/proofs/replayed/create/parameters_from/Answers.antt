@@ -1,5 +1,5 @@
 use Rattle.std.proofs.Common.{◌∙◌, sym, ap, ℕ, List, [], ◌∷◌, ◌++◌, Option, add-one}
-use Rattle.port_values.specs.declared.value.Value.{Value}
+use Rattle.port_model.specs.declared.values.value.Value.{Value}
 use Rattle.sdl_failures.proofs.CreateLemmas.{parameters_more}
 use Rattle.run_semantics.specs.Instance.{parameters_from}
 use Rattle.sdl_failures.proofs.replayed.create.parameters_from.Goals as goal

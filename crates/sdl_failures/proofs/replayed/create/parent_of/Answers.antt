@@ -1,7 +1,7 @@
 -- The record that is found has the number.
 use Rattle.std.proofs.Common.{◌∙◌, ℕ, ap, arith, sym}
 use Rattle.std.proofs.lemmas.Option.{IfSome_then}
-use Rattle.port_values.specs.declared.pid.Pid.TheVariants as pid
+use Rattle.port_model.specs.declared.values.pid.Pid.TheVariants as pid
 use Rattle.sdl_failures.proofs.replayed.create.parent_of.Goals as goal
 
 pub returns-clause-parent : goal.returns-clause-parent

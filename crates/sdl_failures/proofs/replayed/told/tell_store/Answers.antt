@@ -1,6 +1,6 @@
 -- What the store takes to know.
 use Rattle.std.proofs.Common.{◌∙◌, ℕ, Some, ap, sym}
-use Rattle.port_values.specs.declared.pid.Pid.{Pid}
+use Rattle.port_model.specs.declared.values.pid.Pid.{Pid}
 use Rattle.run_evaluation.specs.declared.store.Store.{Store}
 use Rattle.run_record.specs.Entry.{event_of}
 use Rattle.run_record.specs.declared.entry.Entry.{Entry}

@@ -1,5 +1,5 @@
 use Rattle.std.proofs.Common.{[]}
-use Rattle.port_inbox.specs.Ends.{AloneState, single}
+use Rattle.port_model.specs.Ends.{AloneState, single}
 use Rattle.sdl_interp.specs.Running.{seen}
 use Rattle.sdl_interp.proofs.Instances.{stands_expired}
 use Rattle.sdl_interp.proofs.instance.Instance+Alone.expire.Goals as goal

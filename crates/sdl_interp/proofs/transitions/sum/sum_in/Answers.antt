@@ -1,7 +1,7 @@
 use Rattle.std.proofs.Common.{◌≡◌, ◌∙◌, Some, ap, refl, rules, sym, tests}
 use Rattle.std.proofs.lemmas.Int.{to_z-of_z}
 use Rattle.std.proofs.lemmas.Option.{IfSome_then}
-use Rattle.port_values.specs.declared.value.Value.TheVariants.{Int}
+use Rattle.port_model.specs.declared.values.value.Value.TheVariants.{Int}
 use Rattle.run_evaluation.specs.Environment.{environment}
 use Rattle.run_evaluation.specs.Value.{at_place, given}
 use Rattle.sdl_interp.proofs.Sums.{pair_value}

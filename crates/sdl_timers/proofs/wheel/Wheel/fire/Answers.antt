@@ -1,7 +1,7 @@
 use Rattle.std.proofs.Common.{◌≡◌, ◌<◌, ◌∙◌, [], Option, set, refl, rules, subst, sym}
 use Rattle.std.specs.List.{All}
 use Rattle.std.proofs.lemmas.List.Elements.{All-nil}
-use Rattle.port_inbox.specs.declared.entry.Fuse.{Fuse}
+use Rattle.port_model.specs.declared.inbox.entry.Fuse.{Fuse}
 use Rattle.sdl_timers.specs.DueOrder.{Fires}
 use Rattle.sdl_timers.proofs.Firing.{HasFired, fires_in, no_fuse, not_due}
 use Rattle.sdl_timers.proofs.wheel.Wheel.fire.Goals as goal

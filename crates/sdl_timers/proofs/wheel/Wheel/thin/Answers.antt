@@ -1,5 +1,5 @@
 use Rattle.std.proofs.Common.{List, subst, sym}
-use Rattle.port_inbox.specs.declared.entry.Fuse.{Fuse}
+use Rattle.port_model.specs.declared.inbox.entry.Fuse.{Fuse}
 use Rattle.sdl_timers.specs.Thinned.{Thins}
 use Rattle.sdl_timers.proofs.Thinning.{thins_none, thins_on}
 use Rattle.sdl_timers.proofs.wheel.Wheel.thin.Goals as goal

@@ -1,6 +1,6 @@
 use Rattle.std.proofs.Common.{◌<◌, ◌≤◌, List, arith, rules, subst, sym}
 use Rattle.std.proofs.lemmas.Result.{on_ok_weaker}
-use Rattle.port_inbox.specs.declared.entry.Fuse.{Fuse}
+use Rattle.port_model.specs.declared.inbox.entry.Fuse.{Fuse}
 use Rattle.serial_order.specs.RunState.{RunState, armed}
 use Rattle.sdl_timers.proofs.Thinning.{thins_all}
 use Rattle.sdl_timers.specs.DueOrder.{with_fuse}

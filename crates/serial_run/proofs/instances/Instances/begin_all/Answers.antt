@@ -1,5 +1,5 @@
 use Rattle.std.proofs.Common.{◌≡◌, ◌+◌, ◌++◌, ◌∷◌, [], ap, ◌∙◌, arith}
-use Rattle.port_values.specs.declared.pid.Pid.TheVariants.{Null}
+use Rattle.port_model.specs.declared.values.pid.Pid.TheVariants.{Null}
 use Rattle.serial_order.specs.RunState.{instance_of}
 use Rattle.serial_run.proofs.Beginning.{begun-more}
 use Rattle.serial_run.proofs.instances.Instances.begin_all.Goals as goal

@@ -1,5 +1,5 @@
 use Rattle.std.proofs.Common.{◌≡◌, ◌+◌, refl, ap, ◌∙◌, subst}
-use Rattle.port_inbox.specs.Ends.{single}
+use Rattle.port_model.specs.Ends.{single}
 use Rattle.serial_run.proofs.Changes.{IsWaked}
 use Rattle.serial_run.proofs.Entering.{entering, serial-entered}
 use Rattle.serial_run.proofs.instances.Instances.enter.Goals as goal

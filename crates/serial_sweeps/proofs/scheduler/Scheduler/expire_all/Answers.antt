@@ -1,5 +1,5 @@
 use Rattle.std.proofs.Common.{◌≡◌, ◌∙◌, ◌+◌, ◌<◌, List, arith, refl, subst, sym, true}
-use Rattle.port_inbox.specs.declared.entry.Fuse.{Fuse}
+use Rattle.port_model.specs.declared.inbox.entry.Fuse.{Fuse}
 use Rattle.serial_sweeps.proofs.Moments.{none_before}
 use Rattle.serial_sweeps.specs.Sweeps.{IsNoFuseBefore, Moment, moment_of}
 use Rattle.serial_sweeps.proofs.scheduler.Scheduler.expire_all.Goals as goal

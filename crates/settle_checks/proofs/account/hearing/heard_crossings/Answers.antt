@@ -1,6 +1,6 @@
 -- What is sent and was put is on its way.
 use Rattle.std.proofs.Common.{◌∙◌, List, subst}
-use Rattle.port_values.specs.declared.pid.Pid.TheVariants.{Env}
+use Rattle.port_model.specs.declared.values.pid.Pid.TheVariants.{Env}
 use Rattle.settle_checks.proofs.HearLemmas.{heard_alone}
 use Rattle.settle_checks.specs.Crossed.{IsSentBy}
 use Rattle.settle_checks.specs.declared.summing.crossings.Crossing.{Crossing}

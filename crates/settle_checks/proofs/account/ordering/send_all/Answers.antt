@@ -1,7 +1,7 @@
 -- What one sender more has put is added.
 use Rattle.std.proofs.Common.{◌+◌, [], get_or, rules, subst}
 use Rattle.std.proofs.lemmas.List.{get_or_read}
-use Rattle.port_values.specs.declared.pid.Pid.TheVariants.{Of}
+use Rattle.port_model.specs.declared.values.pid.Pid.TheVariants.{Of}
 use Rattle.run_record.specs.Record.{RecordValue}
 use Rattle.settle_checks.proofs.CrossedLemmas.{sent_all, sent_more, sent_none}
 use Rattle.settle_checks.proofs.TimedLemmas.{all_rise, summary_of_both}

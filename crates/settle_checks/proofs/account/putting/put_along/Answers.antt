@@ -1,7 +1,7 @@
 -- One flow more.
 use Rattle.std.proofs.Common.{◌≡◌, ◌∙◌, ap, get_or, List, ℕ, subst}
 use Rattle.std.proofs.lemmas.List.{get_or_default}
-use Rattle.port_values.specs.declared.pid.Pid.TheVariants.{Of}
+use Rattle.port_model.specs.declared.values.pid.Pid.TheVariants.{Of}
 use Rattle.settle_checks.proofs.AccountEnoughLemmas.{no_flow}
 use Rattle.settle_checks.proofs.AccountLists.{at_done, at_more}
 use Rattle.settle_checks.specs.Account.{ArePutAlong, IsPutToOne}

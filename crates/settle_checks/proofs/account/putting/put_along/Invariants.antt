@@ -1,5 +1,5 @@
 use Rattle.std.proofs.Common.{◌≡◌, ◌<◌, get_or, ℕ, List}
-use Rattle.port_values.specs.declared.pid.Pid.TheVariants.{Of}
+use Rattle.port_model.specs.declared.values.pid.Pid.TheVariants.{Of}
 use Rattle.settle_checks.specs.Account.{IsPutToOne}
 use Rattle.settle_checks.specs.Outputs.{AreNamed}
 use Rattle.settle_meaning.specs.Puts.{Heard}

@@ -1,5 +1,5 @@
 use Rattle.std.proofs.Common.{◌≡◌, ◌<◌, ◌≤◌, get_or, length, ℕ}
-use Rattle.port_values.specs.declared.pid.Pid.TheVariants.{Of}
+use Rattle.port_model.specs.declared.values.pid.Pid.TheVariants.{Of}
 use Rattle.settle_checks.specs.Totals.{total}
 use Rattle.settle_checks.specs.declared.summing.flows.Flow.{Flow}
 use Rattle.threads_ports.specs.Peers.{put_to}

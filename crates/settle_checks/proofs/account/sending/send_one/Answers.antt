@@ -1,7 +1,7 @@
 -- All was put that is sent.
 use Rattle.std.proofs.Common.{◌∙◌, ◌++◌, ap, List, subst, sym}
 use Rattle.std.specs.List.{flat_map}
-use Rattle.port_values.specs.declared.pid.Pid.TheVariants.{Of}
+use Rattle.port_model.specs.declared.values.pid.Pid.TheVariants.{Of}
 use Rattle.settle_checks.proofs.SendLemmas.{sent_whole}
 use Rattle.settle_checks.specs.Crossings.{crossing_out}
 use Rattle.settle_checks.specs.Flows.{AreFlows, sent_passes}

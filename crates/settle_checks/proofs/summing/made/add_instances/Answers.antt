@@ -1,6 +1,6 @@
 -- One instance more is added.
 use Rattle.std.proofs.Common.{◌≡◌, ◌∙◌, ◌+◌, ◌-◌, ◌++◌, ◌∷◌, [], ap, length, rules}
-use Rattle.port_values.specs.declared.pid.Pid.TheVariants.{Null}
+use Rattle.port_model.specs.declared.values.pid.Pid.TheVariants.{Null}
 use Rattle.run_evaluation.specs.declared.identity.Identity.{Identity}
 use Rattle.settle_checks.proofs.CreatedLemmas.{instance_more}
 use Rattle.settle_meaning.specs.Identities.{first_of}

@@ -1,6 +1,6 @@
 -- Where there is no sender, nothing was put.
 use Rattle.std.proofs.Common.{◌∙◌, ap, subst, sym, ℕ, List}
-use Rattle.port_values.specs.declared.item.Item.{Item}
+use Rattle.port_model.specs.declared.values.item.Item.{Item}
 use Rattle.threads_instance.proofs.Puts.{ends_lost}
 use Rattle.threads_instance.specs.Outbox.{AreEnds, OutboxState}
 use Rattle.threads_ports.specs.Peers.{is_known}

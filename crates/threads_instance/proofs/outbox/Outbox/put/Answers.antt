@@ -1,6 +1,6 @@
 -- What is put is sent.
 use Rattle.std.proofs.Common.{ap, subst, sym, ℕ, List}
-use Rattle.port_values.specs.declared.item.Item.{Item}
+use Rattle.port_model.specs.declared.values.item.Item.{Item}
 use Rattle.threads_instance.proofs.Puts.{ends_put, ends_same}
 use Rattle.threads_instance.specs.Outbox.{AreEnds}
 use Rattle.threads_ports.specs.Peers.{PeersState, put_to}

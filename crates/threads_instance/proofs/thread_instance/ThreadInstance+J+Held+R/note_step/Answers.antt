@@ -1,7 +1,7 @@
 use Rattle.std.proofs.Common.{◌≡◌, length, subst}
 use Rattle.std.specs.Prelude.{IfSome}
-use Rattle.port_inbox.specs.Ends.{OwnerState}
-use Rattle.run_course.specs.KeptWords.{Notes}
+use Rattle.port_model.specs.Ends.{OwnerState}
+use Rattle.port_model.specs.KeptWords.{Notes}
 use Rattle.threads_instance.specs.ThreadInstance.{ThreadInstanceState}
 use Rattle.threads_instance.proofs.CourseLemmas.{counted}
 use Rattle.threads_instance.proofs.thread_instance.ThreadInstance+J+Held+R.note_step.Goals as goal

@@ -4,7 +4,7 @@ use Rattle.std.specs.Prelude.{OnOk}
 use Rattle.std.specs.Result.{is_ok}
 use Rattle.std.specs.String.{string_bytes}
 use Rattle.sdl_report.specs.ReportText.{line, signal_text, target_text}
-use Rattle.port_values.specs.declared.value.Value.{Value}
+use Rattle.port_model.specs.declared.values.value.Value.{Value}
 use Rattle.view_text.specs.LinesText.{fate_text}
 use Rattle.view_text.specs.declared.fate.Fate.{Fate}
 use Rattle.view_text.proofs.lines.step_line.push_lost_line.Goals as goal

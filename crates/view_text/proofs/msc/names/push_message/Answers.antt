@@ -1,5 +1,5 @@
 use Rattle.std.proofs.Common.{◌++◌}
-use Rattle.port_values.specs.Text.{values_text}
+use Rattle.port_model.specs.Text.{values_text}
 use Rattle.view_text.specs.EventText.{message_name, word}
 use Rattle.std.specs.String.{string_bytes}
 use Rattle.view_text.proofs.Pushed.{grown, said}

@@ -1,6 +1,6 @@
 -- A value doesn't fit.
 use Rattle.std.proofs.Common.{◌∙◌, ◌∷◌, [], List, Option, Some, ap, refl, sym}
-use Rattle.port_values.specs.declared.value.Value.{Value}
+use Rattle.port_model.specs.declared.values.value.Value.{Value}
 use Rattle.run_record.specs.Entry.{event_of, got_of}
 use Rattle.run_record.specs.Event as event
 use Rattle.run_record.specs.Event.{Event}

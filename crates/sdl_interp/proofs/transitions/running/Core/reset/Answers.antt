@@ -1,6 +1,6 @@
 use Rattle.std.proofs.Common.{◌∙◌, ap, inl, inr, map}
 use Rattle.std.proofs.lemmas.Result.{err_from_is_err_and}
-use Rattle.port_inbox.specs.Ends.{OwnerState}
+use Rattle.port_model.specs.Ends.{OwnerState}
 use Rattle.run_evaluation.specs.Value.{key_at}
 use Rattle.run_record.specs.Event as event
 use Rattle.run_semantics.specs.Goes.{with_event}

@@ -1,5 +1,5 @@
 -- What the sender answers, its owner answers, and keeps the fact by it.
-use Rattle.port_inbox.specs.declared.entry.Entry.TheVariants.{Timer}
+use Rattle.port_model.specs.declared.inbox.entry.Entry.TheVariants.{Timer}
 use Rattle.threads_ports.proofs.SendersKept.{expire_keeps}
 use Rattle.threads_ports.proofs.SenderLemmas.{put_through}
 use Rattle.threads_ports.proofs.senders.peers.Peers.expire.Goals as goal

@@ -1,6 +1,6 @@
 -- What the sender at the place answers, its owner answers, and keeps the fact by it.
 use Rattle.std.proofs.Common.{◌∙◌, sym}
-use Rattle.port_inbox.specs.declared.entry.Entry.TheVariants.{Signal}
+use Rattle.port_model.specs.declared.inbox.entry.Entry.TheVariants.{Signal}
 use Rattle.threads_ports.proofs.SendersKept.{kept_put, recorded_put}
 use Rattle.threads_ports.proofs.PlaceLemmas.{at_place_of, known_at, known_there, named_at, puts_at, stays_at, with_sender}
 use Rattle.threads_ports.proofs.senders.peers.Peers.put.Goals as goal

@@ -1,6 +1,6 @@
 -- One sender more.
 use Rattle.std.proofs.Common.{◌∙◌, ap, sym, ℕ, [], ◌∷◌, ◌++◌}
-use Rattle.run_course.specs.declared.course.SenderInto.{SenderInto}
+use Rattle.port_model.specs.declared.course.course.SenderInto.{SenderInto}
 use Rattle.threads_ports.proofs.IntoLemmas.{into_more}
 use Rattle.threads_ports.proofs.senders.peers.Peers.senders_into.Goals as goal
 

@@ -1,7 +1,7 @@
 -- The signals that are counted are those that are listed.
 use Rattle.std.proofs.Common.{◌∙◌, ap, length, Option}
-use Rattle.port_inbox.specs.Put.{of}
-use Rattle.port_queue.specs.Ends.{SenderState}
+use Rattle.port_model.specs.Put.{of}
+use Rattle.input_port.specs.QueueEnds.{SenderState}
 use Rattle.threads_ports.proofs.Signals.{count_by-signals}
 use Rattle.threads_ports.proofs.SenderLemmas.{put_in}
 use Rattle.threads_ports.specs.Peers.{PeersState, put_to}

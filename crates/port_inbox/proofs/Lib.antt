@@ -1,2 +1,0 @@
-pub mod Alive
-pub mod Leaving

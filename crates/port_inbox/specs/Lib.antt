@@ -1,4 +1,0 @@
-pub mod Calls
-pub mod Ends
-pub mod Left
-pub mod Put

@@ -1,6 +1,0 @@
-pub mod Drawing
-pub mod Keeping
-pub mod Meeting
-pub mod Moves
-pub mod Passes
-pub mod PutLists

@@ -1,6 +1,0 @@
-use Rattle.std.proofs.Common.{◌≡◌}
-use Rattle.port_inbox.specs.Calls.{HasDrawn}
-use Rattle.port_queue.proofs.receiver.Receiver.drain.Given as goal
-
-abbrev pub invariant-loop : goal.invariant-loop
-invariant-loop g l = (l.self.port ≡ l.port.queue) × HasDrawn l.fn.self l.self
