@@ -6,7 +6,7 @@ use Rattle.std.proofs.Crossing as owners
 use Rattle.sdl_report.proofs.short_names.ProcessNames.TheSendSync as process-names
 use Rattle.sdl_report.specs.contracts.short_names.ShortNames as ShortNames
 use Rattle.sdl_report.specs.contracts.short_names.ShortNames.TheInside as Inside
-use Rattle.threads_system.proofs.Crossing.{system}
+use Rattle.sdl_system.proofs.Crossing.{system}
 
 module _ (κ : NamedLft) where
   inside : IsSync (Inside.the_row κ)

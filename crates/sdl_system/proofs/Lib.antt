@@ -1,5 +1,6 @@
 pub mod BehaviourLemmas
 pub mod BodyLemmas
+pub mod Crossing
 pub mod GrowLemmas
 pub mod NameLemmas
 pub mod OperationLemmas

@@ -24,7 +24,7 @@ use Rattle.threads_ports.specs.declared.senders.run.Run as run
 use Rattle.threads_shared.proofs.common.Common.TheSendSync as a-common
 use Rattle.threads_shared.proofs.tables.Tables.TheSendSync as some-tables
 use Rattle.threads_shared.specs.contracts.shared.Shared as Shared
-use Rattle.threads_system.proofs.Crossing.{process, system}
+use Rattle.sdl_system.proofs.Crossing.{process, system}
 
 module _ (κ : NamedLft) (P : RattleType) (g : inbox.Ghosts P.Denot) where
   core : IsSend P → IsSend (Core.the_row κ P)
