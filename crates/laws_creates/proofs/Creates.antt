@@ -11,7 +11,7 @@ use Rattle.serial_order.specs.RunState.{RunState, after_effect, after_effects, w
 use Rattle.serial_order.specs.Report.{Closes}
 use Rattle.serial_order.specs.Told.{given_after_one}
 use Rattle.laws_creates.specs.Creates.{EachIsCreatedOnce, all_created, created_by, created_in, created_in_one, identities}
-use Rattle.run_evaluation.specs.declared.identity.Identity.{Identity}
+use Rattle.run_record.specs.declared.evaluation.identity.Identity.{Identity}
 use Rattle.sdl_interp.specs.Instance.{InstanceValue}
 use Rattle.run_record.specs.Event as event
 use Rattle.run_record.specs.Event.{Event}

@@ -14,7 +14,7 @@ use Rattle.serial_order.specs.RunState.{RunState, after_effect, after_effects, w
 use Rattle.serial_order.specs.Report.{Closes, Ends}
 use Rattle.laws_creates.proofs.Within.{IsWithin, all_within, lines_within}
 use Rattle.laws_creates.specs.Ends.{EndsAreNotBefore, IsBy}
-use Rattle.run_evaluation.specs.declared.identity.Identity.{Identity}
+use Rattle.run_record.specs.declared.evaluation.identity.Identity.{Identity}
 use Rattle.sdl_interp.specs.Instance.{InstanceValue, closing}
 use Rattle.run_record.specs.Event as event
 use Rattle.run_record.specs.Event.{Event}

@@ -9,7 +9,7 @@ use Rattle.port_model.specs.declared.values.value.Value.{Value}
 use Rattle.serial_order.proofs.Made.{MakesNext}
 use Rattle.serial_order.specs.RunState.{RunState, after_effect, living_of, change_at, changed_at, count_living, instance_at, instance_of, is_ended, least_living, lives_of, with_expiry, with_put}
 use Rattle.laws_creates.proofs.Creates.{create_is}
-use Rattle.run_evaluation.specs.declared.identity.Identity.{Identity}
+use Rattle.run_record.specs.declared.evaluation.identity.Identity.{Identity}
 use Rattle.sdl_interp.specs.Instance.{InstanceValue}
 use Rattle.run_semantics.specs.Effect.{Effect, Arm, Create, Send}
 use Rattle.run_semantics.specs.World.{Living, living_after, count_in, with_one_more}

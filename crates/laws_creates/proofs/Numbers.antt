@@ -6,7 +6,7 @@ use Rattle.serial_order.specs.Execution.{Execution, Expired, Follows, Happening,
 use Rattle.serial_order.specs.RunState.{RunState, after_effects, beginning, first_instances, first_of}
 use Rattle.laws_creates.proofs.Creates.{effects_who, all_who, deeds_whom, next_who, records_who, step_effects, step_makes, system_kept, who_append, who_count, whom}
 use Rattle.laws_creates.specs.Creates.{EachHasOneRecord, created_in_one, identities}
-use Rattle.run_evaluation.specs.declared.identity.Identity.{Identity}
+use Rattle.run_record.specs.declared.evaluation.identity.Identity.{Identity}
 use Rattle.sdl_interp.specs.Instance.{InstanceValue}
 use Rattle.run_record.specs.Record.{RecordValue}
 use Rattle.run_semantics.specs.Effect.{Effect, Arm, Create, Send, effects_of}

@@ -13,7 +13,7 @@ use Rattle.laws_creates.proofs.Numbers.{Numbered, effects_numbered, all_numbered
 use Rattle.laws_creates.proofs.Sending.{step_sent}
 use Rattle.laws_creates.specs.Creates.{identities}
 use Rattle.laws_creates.specs.Steps.{AreCounted, EachIsCounted, EachIsCountedAmid, HasNoNumber, NullsHaveCause, OutputsAreMeant, SignalsAreMeant, all_given, as_many, no_process}
-use Rattle.run_evaluation.specs.declared.identity.Identity.{Identity}
+use Rattle.run_record.specs.declared.evaluation.identity.Identity.{Identity}
 use Rattle.sdl_interp.specs.Instance.{InstanceValue}
 use Rattle.run_record.specs.Event as event
 use Rattle.run_record.specs.Event.{Event}

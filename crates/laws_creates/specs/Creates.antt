@@ -6,7 +6,7 @@ use Rattle.serial_order.specs.Execution.{Happening, Moved}
 use Rattle.serial_order.specs.RunState.{beginning}
 use Rattle.serial_order.specs.Laws.{AtEachEnd}
 use Rattle.serial_order.specs.Report.{IsSerialReport}
-use Rattle.run_evaluation.specs.declared.identity.Identity.{Identity}
+use Rattle.run_record.specs.declared.evaluation.identity.Identity.{Identity}
 use Rattle.sdl_interp.specs.Instance.{InstanceValue}
 use Rattle.run_record.specs.Event as event
 use Rattle.run_record.specs.Event.{Event}

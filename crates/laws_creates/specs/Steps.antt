@@ -6,7 +6,7 @@ use Rattle.port_model.specs.declared.values.value.Value.{Value}
 use Rattle.serial_order.specs.Execution.{Execution, Happening, Hears, Steps}
 use Rattle.serial_order.specs.RunState.{RunState, after_effects, beginning, living_of, count_living, instance_at, least_living}
 use Rattle.serial_order.specs.Laws.{AtEachEnd}
-use Rattle.run_evaluation.specs.declared.identity.Identity.{Identity}
+use Rattle.run_record.specs.declared.evaluation.identity.Identity.{Identity}
 use Rattle.sdl_interp.specs.Instance.{InstanceValue}
 use Rattle.run_record.specs.Event as event
 use Rattle.run_semantics.specs.Effect.{Effect, Deed, Send, effects_of}

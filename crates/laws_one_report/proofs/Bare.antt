@@ -10,7 +10,7 @@ use Rattle.port_model.specs.declared.values.item.Item.{Item}
 use Rattle.port_model.specs.declared.values.pid.Pid.TheVariants.{Of}
 use Rattle.port_model.specs.declared.values.value.Value.{Value}
 use Rattle.serial_order.specs.RunState.{RunState, after_effect, after_effects, world_at, living_of, change_at, changed_at, count_living, heard_effects, instance_at, instance_of, least_living, lives_of, with_created, with_expiry, with_instance, with_put}
-use Rattle.run_evaluation.specs.declared.identity.Identity.{Identity}
+use Rattle.run_record.specs.declared.evaluation.identity.Identity.{Identity}
 use Rattle.sdl_interp.specs.Instance.{InstanceValue}
 use Rattle.run_semantics.specs.Effect.{Effect, Arm, Create, Send}
 use Rattle.run_semantics.specs.World.{Living}

@@ -7,7 +7,7 @@ use Rattle.port_model.specs.declared.inbox.entry.Fuse.{Fuse}
 use Rattle.port_model.specs.Timers.{IsLeast, earlier}
 use Rattle.serial_order.specs.Execution.{Expired, Expires, Follows, Happening, Heard, Hears, IsNoFuseBefore, IsNoLineBefore, Moved, Rests, Steps, Ticked, Ticks, next_line}
 use Rattle.serial_order.specs.RunState.{RunState, after_effects, expired, heard_effects, instance_at}
-use Rattle.run_evaluation.specs.declared.identity.Identity.{Identity}
+use Rattle.run_record.specs.declared.evaluation.identity.Identity.{Identity}
 use Rattle.sdl_interp.specs.Instance.{InstanceValue}
 use Rattle.run_semantics.specs.Effect.{Effect, Deed, events_of}
 use Rattle.sdl_script.specs.declared.script.ScriptLine.{ScriptLine}

@@ -5,7 +5,7 @@ use Rattle.port_model.specs.declared.values.pid.Pid.TheVariants.{Of}
 use Rattle.port_model.specs.declared.values.value.Value.{Value}
 use Rattle.serial_order.specs.Execution.{Expired, Follows, Happening, Heard, Moved, Steps, Ticked}
 use Rattle.serial_order.specs.RunState.{RunState, after_effect, after_effects, change_at, changed_at, instance_at, instance_of, with_created, with_expiry, with_instance, with_put}
-use Rattle.run_evaluation.specs.declared.identity.Identity.{Identity}
+use Rattle.run_record.specs.declared.evaluation.identity.Identity.{Identity}
 use Rattle.sdl_interp.specs.Instance.{InstanceValue}
 use Rattle.run_record.specs.Event.{Event}
 use Rattle.run_semantics.specs.Effect.{Effect, Arm, Create, Deed, Send, effects_of, events_of}

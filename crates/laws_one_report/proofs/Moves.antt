@@ -5,8 +5,8 @@ use Rattle.port_model.specs.Ends.{single}
 use Rattle.port_model.specs.Port.{PortState}
 use Rattle.serial_order.specs.Execution.{Moved, Steps, is_transition}
 use Rattle.serial_order.specs.RunState.{RunState, after_effects, world_at, instance_at, with_instance}
-use Rattle.run_evaluation.specs.declared.identity.Identity.{Identity}
-use Rattle.run_evaluation.specs.declared.store.Store.{Store}
+use Rattle.run_record.specs.declared.evaluation.identity.Identity.{Identity}
+use Rattle.run_record.specs.declared.evaluation.store.Store.{Store}
 use Rattle.sdl_interp.specs.Instance.{InstanceValue}
 use Rattle.run_record.specs.Event.{Event}
 use Rattle.run_semantics.specs.Effect.{Deed, effects_of, events_of}

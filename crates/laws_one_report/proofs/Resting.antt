@@ -5,8 +5,8 @@ use Rattle.port_model.specs.Port.{PortState}
 use Rattle.serial_order.proofs.Own.{later_none}
 use Rattle.serial_order.specs.Execution.{IsMeant, Rests, Steps, is_transition}
 use Rattle.serial_order.specs.RunState.{RunState, world_at, living_of}
-use Rattle.run_evaluation.specs.declared.identity.Identity.{Identity}
-use Rattle.run_evaluation.specs.declared.store.Store.{Store}
+use Rattle.run_record.specs.declared.evaluation.identity.Identity.{Identity}
+use Rattle.run_record.specs.declared.evaluation.store.Store.{Store}
 use Rattle.sdl_interp.specs.Instance.{InstanceValue, IsQuietAt, work_of}
 use Rattle.run_semantics.specs.Effect.{Deed, events_of}
 use Rattle.run_semantics.specs.ControlPoint.{Definition, ControlPoint}

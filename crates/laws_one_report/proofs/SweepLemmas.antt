@@ -2,7 +2,7 @@
 use Rattle.std.proofs.Common.{◌≡◌, ◌∙◌, ◌<◌, ◌≤◌, ◌+◌, ap, arith, refl, subst, sym, append_assoc, if◌then◌else◌, ℕ, zero, suc, Bool, true, false, List, [], ◌∷◌, ◌++◌, Some, length, nat_le, slice_get}
 use Rattle.std.proofs.lemmas.Option.{slice_get_within}
 use Rattle.port_model.specs.declared.values.pid.Pid.TheVariants.{Of}
-use Rattle.run_evaluation.specs.declared.identity.Identity.{Identity}
+use Rattle.run_record.specs.declared.evaluation.identity.Identity.{Identity}
 use Rattle.run_semantics.specs.Effect.{Effect, Arm, Create, Deed, Send, effects_of}
 use Rattle.sdl_interp.specs.Instance.{InstanceValue}
 use Rattle.sdl_system.specs.Behaviour.{Behaviour}

@@ -3,7 +3,7 @@ use Rattle.std.proofs.Common.{◌≡◌, ◌+◌, ◌<◌, ap, arith, refl, subs
 use Rattle.std.proofs.lemmas.Option.{none-some}
 use Rattle.serial_order.specs.Execution.{IsTurn, RestBetween, Rests, Steps, begins_anew, goes_on}
 use Rattle.serial_order.specs.RunState.{RunState, instance_at}
-use Rattle.run_evaluation.specs.declared.identity.Identity.{Identity}
+use Rattle.run_record.specs.declared.evaluation.identity.Identity.{Identity}
 use Rattle.sdl_interp.specs.Instance.{InstanceValue}
 use Rattle.run_semantics.specs.Effect.{Deed, events_of}
 use Rattle.sdl_system.specs.Behaviour.{Behaviour}

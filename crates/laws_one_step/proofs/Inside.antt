@@ -5,9 +5,9 @@ use Rattle.port_model.specs.Port.{PortState}
 use Rattle.port_model.specs.declared.values.item.SignalId.{SignalId}
 use Rattle.port_model.specs.declared.values.timer_key.TimerKey.{TimerKey}
 use Rattle.port_model.specs.declared.values.value.Value.{Value}
-use Rattle.run_evaluation.specs.Environment.{environment}
-use Rattle.run_evaluation.specs.Value.{placed}
-use Rattle.run_evaluation.specs.declared.store.Store.{Store}
+use Rattle.run_record.specs.Environment.{environment}
+use Rattle.run_record.specs.Value.{placed}
+use Rattle.run_record.specs.declared.evaluation.store.Store.{Store}
 use Rattle.run_record.specs.Event as event
 use Rattle.run_record.specs.Event.{Event}
 use Rattle.run_record.specs.declared.failure.Failure.TheVariants.{NoAnswer}

@@ -4,7 +4,7 @@ use Rattle.std.proofs.lemmas.List.Elements.{All-head, All-tail}
 use Rattle.std.specs.List.{flat_map}
 use Rattle.std.specs.Option.{option_map}
 use Rattle.port_model.specs.Port.{PortState}
-use Rattle.run_evaluation.specs.declared.store.Store.{Store}
+use Rattle.run_record.specs.declared.evaluation.store.Store.{Store}
 use Rattle.run_record.specs.Event.{Event}
 use Rattle.run_semantics.specs.Effect.{Effect, Deed, effects_of, events_of}
 use Rattle.run_semantics.specs.Goes.{AreInner, IsInner}

@@ -5,10 +5,10 @@ use Rattle.port_model.specs.declared.values.pid.Pid.TheVariants.{Of}
 use Rattle.port_model.specs.declared.plain_port.TheConstants.{MOST_SETS}
 use Rattle.port_model.specs.declared.values.timer_key.TimerKey.{TimerKey}
 use Rattle.port_model.specs.declared.values.value.Value.{Value}
-use Rattle.run_evaluation.specs.Environment.{environment}
-use Rattle.run_evaluation.specs.Value.{at_place, key_at, placed, value_of, values_at}
-use Rattle.run_evaluation.specs.declared.identity.Identity.{Identity}
-use Rattle.run_evaluation.specs.declared.store.Store.{Store}
+use Rattle.run_record.specs.Environment.{environment}
+use Rattle.run_record.specs.Value.{at_place, key_at, placed, value_of, values_at}
+use Rattle.run_record.specs.declared.evaluation.identity.Identity.{Identity}
+use Rattle.run_record.specs.declared.evaluation.store.Store.{Store}
 use Rattle.run_record.specs.Event as event
 use Rattle.run_record.specs.Event.{Event}
 use Rattle.run_record.specs.declared.failure.Failure.{Failure}

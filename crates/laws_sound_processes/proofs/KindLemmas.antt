@@ -3,7 +3,7 @@ use Rattle.std.proofs.Common.{◌≡◌, ◌∙◌, ℕ, zero, suc, List, [], �
 use Rattle.laws_sound_runs.proofs.SortLemmas.{runs-keep-sorts}
 use Rattle.laws_sound_processes.specs.ProcessLaws.{RunsHaveKinds}
 use Rattle.laws_sound_runs.proofs.ValueLemmas.{values-have-kinds}
-use Rattle.run_evaluation.specs.Environment.{environment}
+use Rattle.run_record.specs.Environment.{environment}
 use Rattle.sdl_system.specs.Behaviour.{variable_meaning}
 
 mapped-get : {A B : Type 0} (f : A → B) (xs : List A) (n : ℕ) (x : A) → slice_get xs n ≡ Some x →

@@ -6,10 +6,10 @@ use Rattle.port_model.specs.Port.{PortState}
 use Rattle.port_model.specs.declared.values.value.Value.{Value}
 use Rattle.build_flow.specs.Beginnings.{beginnings}
 use Rattle.build_flow.specs.Reach.{AreReached}
-use Rattle.run_evaluation.specs.Environment.{environment}
-use Rattle.run_evaluation.specs.Value.{value_of}
-use Rattle.run_evaluation.specs.declared.identity.Identity.{Identity}
-use Rattle.run_evaluation.specs.declared.store.Store.{Store}
+use Rattle.run_record.specs.Environment.{environment}
+use Rattle.run_record.specs.Value.{value_of}
+use Rattle.run_record.specs.declared.evaluation.identity.Identity.{Identity}
+use Rattle.run_record.specs.declared.evaluation.store.Store.{Store}
 use Rattle.build_process.specs.Faulty.{body_faults}
 use Rattle.build_process.specs.Meant.{IsBehaviour}
 use Rattle.build_process.specs.ProcessScope.{ProcessScope}

@@ -4,11 +4,11 @@ use Rattle.port_model.specs.History.{PortEvent}
 use Rattle.port_model.specs.Port.{PortState}
 use Rattle.port_model.specs.declared.values.item.SignalId.{SignalId}
 use Rattle.port_model.specs.declared.values.value.Value.{Value}
-use Rattle.run_evaluation.specs.Environment.{Environment, environment, sorts_of}
-use Rattle.run_evaluation.specs.Value.{accessed, asked, at_place, first_sort, followed, given, keyed, later_sorts, narrowed, operated, operated_on, placed, truth_in, value_at, value_of, values_of}
-use Rattle.run_evaluation.specs.Variables.{VariableList, value_in}
-use Rattle.run_evaluation.specs.declared.identity.Identity.{Identity}
-use Rattle.run_evaluation.specs.declared.store.Store.{Store}
+use Rattle.run_record.specs.Environment.{Environment, environment, sorts_of}
+use Rattle.run_record.specs.Value.{accessed, asked, at_place, first_sort, followed, given, keyed, later_sorts, narrowed, operated, operated_on, placed, truth_in, value_at, value_of, values_of}
+use Rattle.run_record.specs.Variables.{VariableList, value_in}
+use Rattle.run_record.specs.declared.evaluation.identity.Identity.{Identity}
+use Rattle.run_record.specs.declared.evaluation.store.Store.{Store}
 use Rattle.run_record.specs.declared.failure.Failure.{Failure}
 use Rattle.run_record.specs.declared.failure.Failure.TheVariants.{NoAnswer, Overflow, SetsSpent, TooLong, Undefined}
 use Rattle.run_semantics.specs.Fails.{FailsIn, HasCause, both, conditions_of, due_by, later, named_by, parameters_of, pid_named, sent_by, set_by, ticks_later, ticks_of}

@@ -7,11 +7,11 @@ use Rattle.std.specs.Option.{unwrap_or}
 use Rattle.port_model.specs.History.{PortEvent}
 use Rattle.port_model.specs.Port.{PortState}
 use Rattle.port_model.specs.declared.values.value.Value.{Value}
-use Rattle.run_evaluation.specs.Environment.{Environment, environment}
-use Rattle.run_evaluation.specs.Value.{at_place, followed, narrowed, placed, value_of, values_of}
-use Rattle.run_evaluation.specs.Variables.{VariableList}
-use Rattle.run_evaluation.specs.declared.identity.Identity.{Identity}
-use Rattle.run_evaluation.specs.declared.store.Store.{Store}
+use Rattle.run_record.specs.Environment.{Environment, environment}
+use Rattle.run_record.specs.Value.{at_place, followed, narrowed, placed, value_of, values_of}
+use Rattle.run_record.specs.Variables.{VariableList}
+use Rattle.run_record.specs.declared.evaluation.identity.Identity.{Identity}
+use Rattle.run_record.specs.declared.evaluation.store.Store.{Store}
 use Rattle.run_record.specs.Event as event
 use Rattle.run_record.specs.Event.{Event}
 use Rattle.run_record.specs.declared.failure.Failure.{Failure}

@@ -3,9 +3,9 @@ use Rattle.std.proofs.Common.{◌≡◌, ℤ, pos, negsuc, neg_ℤ, Bool, true, 
 use Rattle.port_model.specs.declared.values.timer_key.TimerKey.{TimerKey}
 use Rattle.port_model.specs.declared.values.value.Value.{Value}
 use Rattle.port_model.specs.declared.values.value.Value.TheVariants as value
-use Rattle.run_evaluation.specs.Environment.{Environment}
-use Rattle.run_evaluation.specs.Value.{accessed, asked, given, keyed, operated, operated_on, value_of, values_of}
-use Rattle.run_evaluation.specs.Variables.{value_in}
+use Rattle.run_record.specs.Environment.{Environment}
+use Rattle.run_record.specs.Value.{accessed, asked, given, keyed, operated, operated_on, value_of, values_of}
+use Rattle.run_record.specs.Variables.{value_in}
 use Rattle.run_record.specs.declared.failure.Failure.{Failure}
 use Rattle.build_expressions.specs.OperandSorts.{added, compared, fits, joined, kind_of, ordered, result_of, scaled, subtracted, unary_result_of}
 use Rattle.build_expressions.specs.declared.operand_sort.OperandSort.{OperandSort}

@@ -1,6 +1,6 @@
 -- Of which variables the value is asked for (Z.104: variable access).
 use Rattle.std.specs.Prelude.{◌≡◌, ◌⊎◌, List, ◌∷◌, Option, None, Some}
-use Rattle.run_evaluation.specs.Variables.{VariableList, value_in}
+use Rattle.run_record.specs.Variables.{VariableList, value_in}
 use Rattle.run_semantics.specs.Fails.{conditions_of}
 use Rattle.run_semantics.specs.ControlPoint.{Amid, Doing, ControlPoint}
 use Rattle.sdl_system.specs.Behaviour.{StateMeaning}

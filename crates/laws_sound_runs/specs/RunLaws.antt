@@ -2,9 +2,9 @@
 use Rattle.std.specs.Prelude.{List}
 use Rattle.port_model.specs.History.{PortEvent}
 use Rattle.port_model.specs.Port.{PortState}
-use Rattle.run_evaluation.specs.Environment.{Environment}
-use Rattle.run_evaluation.specs.declared.identity.Identity.{Identity}
-use Rattle.run_evaluation.specs.declared.store.Store.{Store}
+use Rattle.run_record.specs.Environment.{Environment}
+use Rattle.run_record.specs.declared.evaluation.identity.Identity.{Identity}
+use Rattle.run_record.specs.declared.evaluation.store.Store.{Store}
 use Rattle.run_record.specs.declared.failure.Failure.TheVariants.{Undefined}
 use Rattle.run_semantics.specs.Effect.{Deed}
 use Rattle.run_semantics.specs.Fails.{FailsIn, HasCause}

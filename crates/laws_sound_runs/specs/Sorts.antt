@@ -3,11 +3,11 @@ use Rattle.std.specs.Prelude.{◌≡◌, ◌<◌, ℕ, true, IfSome, List, Some,
 use Rattle.port_model.specs.History.{PortEvent}
 use Rattle.port_model.specs.Port.{PortState}
 use Rattle.port_model.specs.declared.values.value.Value.{Value}
-use Rattle.run_evaluation.specs.Environment.{Environment}
-use Rattle.run_evaluation.specs.Value.{values_at}
-use Rattle.run_evaluation.specs.Variables.{VariableList, value_in}
-use Rattle.run_evaluation.specs.declared.identity.Identity.{Identity}
-use Rattle.run_evaluation.specs.declared.store.Store.{Store}
+use Rattle.run_record.specs.Environment.{Environment}
+use Rattle.run_record.specs.Value.{values_at}
+use Rattle.run_record.specs.Variables.{VariableList, value_in}
+use Rattle.run_record.specs.declared.evaluation.identity.Identity.{Identity}
+use Rattle.run_record.specs.declared.evaluation.store.Store.{Store}
 use Rattle.run_semantics.specs.Effect.{Deed}
 use Rattle.run_semantics.specs.Instance.{first_variables}
 use Rattle.run_semantics.specs.ControlPoint.{Definition, ControlPoint}

@@ -1,9 +1,9 @@
 -- What expressions resolve to is of the kind that is said, and comes to values of that kind (Z.104: expressions).
 use Rattle.std.specs.Prelude.{◌≡◌, true, List, Some, Ok, length, map, slice_get}
 use Rattle.port_model.specs.declared.values.value.Value.{Value}
-use Rattle.run_evaluation.specs.Environment.{Environment}
-use Rattle.run_evaluation.specs.Value.{value_of}
-use Rattle.run_evaluation.specs.Variables.{VariableList, value_in}
+use Rattle.run_record.specs.Environment.{Environment}
+use Rattle.run_record.specs.Value.{value_of}
+use Rattle.run_record.specs.Variables.{VariableList, value_in}
 use Rattle.build_expressions.specs.OperandSorts.{fits}
 use Rattle.build_expressions.specs.Scope.{Scope}
 use Rattle.build_expressions.specs.Typing.{Typed, argument_in, taken_term, taken_terms, typed_in}

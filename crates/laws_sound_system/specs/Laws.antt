@@ -8,8 +8,8 @@ use Rattle.sdl_build.specs.Built.{IsBuilt}
 use Rattle.sdl_build.specs.Laws.{CanRun}
 use Rattle.sdl_build.specs.ProcessScope.{process_scope}
 use Rattle.build_routes.specs.declared.network.joined.Source.{Source}
-use Rattle.run_evaluation.specs.declared.identity.Identity.{Identity}
-use Rattle.run_evaluation.specs.declared.store.Store.{Store}
+use Rattle.run_record.specs.declared.evaluation.identity.Identity.{Identity}
+use Rattle.run_record.specs.declared.evaluation.store.Store.{Store}
 use Rattle.build_process.specs.Meant.{IsBehaviour}
 use Rattle.run_record.specs.declared.failure.Failure.TheVariants.{Undefined}
 use Rattle.build_routes.specs.Table.{SendsFrom}

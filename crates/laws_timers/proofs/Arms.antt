@@ -5,9 +5,9 @@ use Rattle.port_model.specs.declared.inbox.entry.Fuse.{Fuse}
 use Rattle.port_model.specs.History.{PortEvent, Reset, Set, Stop, Take}
 use Rattle.port_model.specs.Port.{PortState}
 use Rattle.port_model.specs.declared.taken.Taken.TheVariants as taken
-use Rattle.run_evaluation.specs.Environment.{Environment}
-use Rattle.run_evaluation.specs.declared.identity.Identity.{Identity}
-use Rattle.run_evaluation.specs.declared.store.Store.{Store}
+use Rattle.run_record.specs.Environment.{Environment}
+use Rattle.run_record.specs.declared.evaluation.identity.Identity.{Identity}
+use Rattle.run_record.specs.declared.evaluation.store.Store.{Store}
 use Rattle.laws_timers.proofs.Ports.{AreSetsOf, fused_legal, fused_more, fused_step, heard_sets, sets_more}
 use Rattle.laws_timers.specs.Fused.{AreFused}
 use Rattle.run_record.specs.Event as event

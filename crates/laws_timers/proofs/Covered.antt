@@ -11,7 +11,7 @@ use Rattle.port_model.specs.declared.values.value.Value.{Value}
 use Rattle.serial_order.specs.Execution.{Execution, Expired, Follows, Happening, Heard, Moved, Steps, Ticked, begins, goes}
 use Rattle.serial_order.specs.RunState.{RunState, after_effect, after_effects, beginning, change_at, first_instances, first_of, instance_of, with_created, with_expiry, with_instance, with_put}
 use Rattle.serial_order.specs.Report.{Ends, EndsWhole}
-use Rattle.run_evaluation.specs.declared.identity.Identity.{Identity}
+use Rattle.run_record.specs.declared.evaluation.identity.Identity.{Identity}
 use Rattle.laws_timers.proofs.Arms.{Among, IsArmedOr, contained, runs_fused, same_Arm}
 use Rattle.laws_timers.proofs.Dues.{IsPaced, are_timed}
 use Rattle.laws_timers.proofs.Numbers.{EachAt, Everywhere, each_change, each_more, each_of, each_with, everywhere_append, everywhere_cons, everywhere_none, not_of}

@@ -6,7 +6,7 @@ use Rattle.port_model.specs.declared.values.item.Item.{Item}
 use Rattle.serial_order.specs.Execution.{Execution, Expired, Follows, Happening, Heard, Moved, Steps, Ticked, begins, goes}
 use Rattle.serial_order.specs.RunState.{RunState, after_effect, after_effects, beginning, change_at, with_expiry, with_instance}
 use Rattle.serial_order.specs.Told.{Moment, comes_by, comes_by_one, expiry_by, first_moment, given_after_one, history_from, history_of_one, is_there, moment_after, put_by}
-use Rattle.run_evaluation.specs.declared.identity.Identity.{Identity}
+use Rattle.run_record.specs.declared.evaluation.identity.Identity.{Identity}
 use Rattle.laws_timers.specs.Fused.{AreDue, AreInTime, ExpiriesAreDue, HistoriesAreInTime, IsDue}
 use Rattle.run_semantics.specs.Effect.{Effect, Arm, Create, Deed, Send, effects_of, calls_of}
 use Rattle.run_semantics.specs.Runs.{own_of}

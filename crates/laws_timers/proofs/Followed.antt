@@ -8,7 +8,7 @@ use Rattle.port_model.specs.declared.values.item.Item.{Item}
 use Rattle.serial_order.specs.Execution.{Execution, Expired, Follows, Happening, Heard, Moved, Steps, Ticked, begins, goes}
 use Rattle.serial_order.specs.RunState.{RunState, beginning}
 use Rattle.serial_order.specs.Told.{Moment, comes_by, comes_by_one, expiry_by, first_moment, given_after_one, history_of, history_of_one, is_there, put_by}
-use Rattle.run_evaluation.specs.declared.identity.Identity.{Identity}
+use Rattle.run_record.specs.declared.evaluation.identity.Identity.{Identity}
 use Rattle.laws_timers.proofs.Arms.{Among, contained}
 use Rattle.laws_timers.proofs.Dues.{moment_from}
 use Rattle.laws_timers.proofs.Numbers.{eq_is, eq_of}

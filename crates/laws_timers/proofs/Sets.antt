@@ -9,8 +9,8 @@ use Rattle.port_model.specs.declared.values.value.Value.{Value}
 use Rattle.serial_order.specs.Execution.{Execution, Expired, Follows, Happening, Heard, Moved, Steps, Ticked, begins, goes}
 use Rattle.serial_order.specs.RunState.{RunState, after_effect, after_effects, beginning, change_at, heard_effects, with_expiry, with_instance}
 use Rattle.serial_order.specs.Told.{Moment, comes_by, first_moment, history_from, history_of, history_of_one, moment_after}
-use Rattle.run_evaluation.specs.declared.identity.Identity.{Identity}
-use Rattle.run_evaluation.specs.declared.store.Store.{Store}
+use Rattle.run_record.specs.declared.evaluation.identity.Identity.{Identity}
+use Rattle.run_record.specs.declared.evaluation.store.Store.{Store}
 use Rattle.laws_timers.proofs.Arms.{Among, IsArmed, among_left, among_right, contained, happens_sets, same_Arm}
 use Rattle.laws_timers.proofs.Dues.{moment_from}
 use Rattle.laws_timers.proofs.Numbers.{eq_is}

@@ -11,7 +11,7 @@ use Rattle.laws_creates.specs.Creates.{identities}
 use Rattle.laws_whole.proofs.Lists.{all_first, all_numbered}
 use Rattle.laws_whole.proofs.Whos.{IsFront}
 use Rattle.port_model.specs.Timers.{IsLeast}
-use Rattle.run_evaluation.specs.declared.identity.Identity.{Identity}
+use Rattle.run_record.specs.declared.evaluation.identity.Identity.{Identity}
 use Rattle.run_record.specs.Record.{RecordValue}
 use Rattle.sdl_interp.specs.Instance.{InstanceValue}
 use Rattle.sdl_system.specs.Route.{living_in}

@@ -13,7 +13,7 @@ use Rattle.laws_whole.proofs.Course.{IsOf, record_of, whos_are}
 use Rattle.laws_whole.proofs.Lists.{flat_maps, map_numbers, spread}
 use Rattle.laws_whole.proofs.Occurs.{Occurs, all_occur}
 use Rattle.laws_whole.proofs.Whos.{initial_are, no_fewer, there_within}
-use Rattle.run_evaluation.specs.declared.identity.Identity.{Identity}
+use Rattle.run_record.specs.declared.evaluation.identity.Identity.{Identity}
 use Rattle.run_record.specs.Event as event
 use Rattle.run_record.specs.Event.{Event}
 use Rattle.run_record.specs.Record.{RecordValue}

@@ -10,7 +10,7 @@ use Rattle.laws_whole.proofs.Living.{are_living}
 use Rattle.laws_whole.proofs.Moments.{moment_amid, moment_before, own_processes}
 use Rattle.laws_whole.proofs.Occurs.{Occurs, OfDeeds, all_occur, deeds_all}
 use Rattle.laws_whole.proofs.Whos.{who_is}
-use Rattle.run_evaluation.specs.declared.identity.Identity.{Identity}
+use Rattle.run_record.specs.declared.evaluation.identity.Identity.{Identity}
 use Rattle.run_record.specs.Event as event
 use Rattle.run_record.specs.Event.{Event}
 use Rattle.run_record.specs.Record.{RecordValue}

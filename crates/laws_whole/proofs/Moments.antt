@@ -17,7 +17,7 @@ use Rattle.laws_whole.proofs.Whos.{born, first_within, front_amid, front_before,
 use Rattle.port_model.specs.Port.{empty_port}
 use Rattle.port_model.specs.declared.values.pid.Pid.TheVariants as pid
 use Rattle.port_model.specs.declared.values.value.Value.{Value}
-use Rattle.run_evaluation.specs.declared.identity.Identity.{Identity}
+use Rattle.run_record.specs.declared.evaluation.identity.Identity.{Identity}
 use Rattle.run_record.specs.Event.{Event}
 use Rattle.run_record.specs.Record.{RecordValue}
 use Rattle.run_record.specs.declared.record.Report.{Report}

@@ -10,7 +10,7 @@ use Rattle.laws_whole.proofs.Lists.{all_at}
 use Rattle.port_model.specs.declared.values.item.SignalId.{SignalId}
 use Rattle.port_model.specs.declared.values.pid.Pid.{Pid}
 use Rattle.port_model.specs.declared.values.pid.Pid.TheVariants as pid
-use Rattle.run_evaluation.specs.declared.identity.Identity.{Identity}
+use Rattle.run_record.specs.declared.evaluation.identity.Identity.{Identity}
 use Rattle.run_record.specs.Event as event
 use Rattle.run_record.specs.Event.{Event}
 use Rattle.run_semantics.specs.Effect.{Arm, Create, Deed, Effect, Send}

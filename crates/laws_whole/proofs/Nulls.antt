@@ -12,7 +12,7 @@ use Rattle.laws_whole.proofs.Lists.{all_split}
 use Rattle.laws_whole.proofs.Living.{IsMoment, living_within}
 use Rattle.laws_whole.proofs.Moments.{moment_amid}
 use Rattle.laws_whole.proofs.Occurs.{Occurs, OfDeeds, all_occur, deeds_all}
-use Rattle.run_evaluation.specs.declared.identity.Identity.{Identity}
+use Rattle.run_record.specs.declared.evaluation.identity.Identity.{Identity}
 use Rattle.run_record.specs.Event as event
 use Rattle.run_record.specs.Event.{Event}
 use Rattle.run_record.specs.Record.{RecordValue}

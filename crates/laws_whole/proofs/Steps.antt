@@ -8,7 +8,7 @@ use Rattle.laws_whole.proofs.Cuts.{AreOrderly, IsOrderly}
 use Rattle.laws_whole.proofs.Hearing.{SendsItsSignal, line_effects, one_sends}
 use Rattle.laws_whole.proofs.Naming.{AreByPid, IsLineByPid, deeds_named, line_named, world_knows}
 use Rattle.laws_whole.proofs.Whos.{there_within}
-use Rattle.run_evaluation.specs.declared.identity.Identity.{Identity}
+use Rattle.run_record.specs.declared.evaluation.identity.Identity.{Identity}
 use Rattle.run_semantics.specs.Effect.{Arm, Create, Deed, Effect, Send, effects_of}
 use Rattle.sdl_interp.specs.Instance.{InstanceValue}
 use Rattle.sdl_script.specs.declared.script.ScriptLine.{ScriptLine}

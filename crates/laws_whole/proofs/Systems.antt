@@ -5,7 +5,7 @@ use Rattle.std.proofs.lemmas.Option.{none-some}
 use Rattle.laws_whole.proofs.Lists.{all_at}
 use Rattle.port_model.specs.declared.values.pid.Pid.TheVariants as pid
 use Rattle.port_model.specs.declared.values.value.Value.{Value}
-use Rattle.run_evaluation.specs.declared.identity.Identity.{Identity}
+use Rattle.run_record.specs.declared.evaluation.identity.Identity.{Identity}
 use Rattle.run_semantics.specs.Effect.{Arm, Create, Effect, Send, effects_of}
 use Rattle.sdl_interp.specs.Instance.{InstanceValue}
 use Rattle.sdl_script.specs.declared.script.ScriptLine.{ScriptLine}

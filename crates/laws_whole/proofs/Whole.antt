@@ -17,7 +17,7 @@ use Rattle.laws_whole.specs.Whole.{EachMissingIsNamed, IsNamedIn, SerialReportsA
 use Rattle.port_model.specs.History.{IsLegal, PortEvent}
 use Rattle.port_model.specs.Port.{PortState, empty_port}
 use Rattle.port_model.specs.declared.values.item.Item.{Item}
-use Rattle.run_evaluation.specs.declared.identity.Identity.{Identity}
+use Rattle.run_record.specs.declared.evaluation.identity.Identity.{Identity}
 use Rattle.run_record.specs.Record.{RecordValue}
 use Rattle.run_record.specs.declared.record.Report.{Report}
 use Rattle.run_semantics.specs.Behaves.{AreBehaviours}

@@ -12,7 +12,7 @@ use Rattle.laws_creates.specs.Creates.{created_by, created_in, created_in_one, i
 use Rattle.laws_whole.proofs.Lists.{all_at, all_flat, at_front, in_one_of}
 use Rattle.laws_whole.proofs.Occurs.{Occurs, all_occur}
 use Rattle.port_model.specs.declared.values.pid.Pid.TheVariants.{Null, Of}
-use Rattle.run_evaluation.specs.declared.identity.Identity.{Identity}
+use Rattle.run_record.specs.declared.evaluation.identity.Identity.{Identity}
 use Rattle.run_record.specs.Event as event
 use Rattle.run_record.specs.Event.{Event}
 use Rattle.run_semantics.specs.Effect.{Deed, Effect, effects_of}

@@ -20,7 +20,7 @@ use Rattle.run_order.specs.declared.member.Member.{Member}
 use Rattle.run_order.specs.declared.pending.Pending.{Pending}
 use Rattle.run_order.specs.declared.pending.Pending.TheVariants as pending
 use Rattle.run_semantics.specs.Behaves.{AreBehaviours}
-use Rattle.run_evaluation.specs.declared.identity.Identity.{Identity}
+use Rattle.run_record.specs.declared.evaluation.identity.Identity.{Identity}
 use Rattle.run_semantics.specs.World.{count_in, is_full, is_reached, most_instances, number_for}
 use Rattle.sdl_interp.specs.Instance.{InstanceValue, IsAtRest}
 use Rattle.sdl_script.specs.declared.script.ScriptLine.{ScriptLine}

@@ -12,7 +12,7 @@ use Rattle.port_model.specs.declared.values.value.Value.{Value}
 use Rattle.run_order.proofs.Meanings.{there_is}
 use Rattle.run_order.specs.Kept.{AreKept, IsStill}
 use Rattle.run_order.specs.OrderState.{fresh}
-use Rattle.run_evaluation.specs.declared.identity.Identity.{Identity}
+use Rattle.run_record.specs.declared.evaluation.identity.Identity.{Identity}
 use Rattle.run_order.specs.declared.member.Member.{Member}
 use Rattle.run_order.specs.declared.pending.Pending.{Pending}
 use Rattle.sdl_interp.specs.Instance.{InstanceValue, Keeps}

@@ -3,7 +3,7 @@ use Rattle.std.proofs.Common.{◌≡◌, ◌∙◌, ◌+◌, ◌<◌, ◌++◌, 
 use Rattle.std.proofs.lemmas.List.{length-append, length-map, length-set}
 use Rattle.std.proofs.lemmas.Option.{slice_get_within}
 use Rattle.port_model.specs.declared.inbox.entry.Fuse.{Fuse}
-use Rattle.run_evaluation.specs.declared.identity.Identity.{Identity}
+use Rattle.run_record.specs.declared.evaluation.identity.Identity.{Identity}
 use Rattle.run_order.proofs.Chronicles.{tellers_of-push}
 use Rattle.run_order.proofs.Happenings.{set_number}
 use Rattle.run_order.proofs.Keeping.{at_push, at_set}

@@ -4,7 +4,7 @@ use Rattle.std.specs.Prelude.{◌≡◌, ◌≢◌, ◌+◌, ◌<◌, ◌≤◌,
 use Rattle.port_model.specs.declared.inbox.entry.Fuse.{Fuse}
 use Rattle.port_model.specs.Timers.{IsLeast, earlier}
 use Rattle.port_model.specs.declared.values.item.Item.{Item}
-use Rattle.run_evaluation.specs.declared.identity.Identity.{Identity}
+use Rattle.run_record.specs.declared.evaluation.identity.Identity.{Identity}
 use Rattle.run_order.specs.declared.member.Member.{Member}
 use Rattle.run_order.specs.OrderState.{OrderState, after_pending, expired, heard, living_of, member_at, with_member, world_at}
 use Rattle.run_order.specs.Pending.{all_pending, behind_first}

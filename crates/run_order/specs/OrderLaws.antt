@@ -2,8 +2,8 @@
 use Rattle.std.specs.Prelude.{◌≡◌, ◌==◌, ◌+◌, ◌<◌, ℕ, cond, List, [], ◌∷◌, Some, length, slice_get}
 use Rattle.port_model.specs.History.{PortEvent}
 use Rattle.port_model.specs.Port.{PortState}
-use Rattle.run_evaluation.specs.declared.identity.Identity.{Identity}
-use Rattle.run_evaluation.specs.declared.store.Store.{Store}
+use Rattle.run_record.specs.declared.evaluation.identity.Identity.{Identity}
+use Rattle.run_record.specs.declared.evaluation.store.Store.{Store}
 use Rattle.run_order.specs.Interleaving.{Happening, Interleaving, tellers_of}
 use Rattle.run_order.specs.OrderState.{OrderState, beginning}
 use Rattle.run_order.specs.Pending.{all_pending}

@@ -4,7 +4,7 @@ use Rattle.port_model.specs.declared.inbox.entry.Fuse.{Fuse}
 use Rattle.port_model.specs.declared.values.item.Item.{Item}
 use Rattle.port_model.specs.declared.values.pid.Pid.TheVariants.{Of}
 use Rattle.port_model.specs.declared.values.value.Value.{Value}
-use Rattle.run_evaluation.specs.declared.identity.Identity.{Identity}
+use Rattle.run_record.specs.declared.evaluation.identity.Identity.{Identity}
 use Rattle.run_order.specs.Roster.{RosterValue, all_entered, living_in_all, with_entered, with_left}
 use Rattle.run_order.specs.declared.member.Member.{Member}
 use Rattle.run_order.specs.declared.pending.Pending.{Pending}

@@ -10,7 +10,7 @@ use crate::member::Member;
 use crate::pending::Pending;
 use crate::replay::Replay;
 use port_model::{Alone, Fuse, Item, Pid, Values};
-use run_evaluation::Identity;
+use run_record::Identity;
 use sdl_interp::Instance;
 use sdl_system::{ProcessId, Source, Target};
 use std::alloc::{AllocError, Global};

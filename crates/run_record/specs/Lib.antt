@@ -1,7 +1,13 @@
 pub mod Entry
+pub mod Environment
 pub mod Event
 pub mod Failure
+pub mod Knowledge
+pub mod Laws
+pub mod Memory
 pub mod Packed
 pub mod Record
 pub mod RunError
 pub mod Told
+pub mod Value
+pub mod Variables

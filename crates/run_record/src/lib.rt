@@ -8,6 +8,7 @@
 #![tactic(auto)]
 
 mod entry;
+mod evaluation;
 mod failure;
 mod growing;
 mod noting;
@@ -20,6 +21,10 @@ mod record;
 mod run_error;
 
 pub use entry::{Entry, Origin, Stimulus};
+pub use evaluation::{
+    Identity, Knowledge, Store, Variables, evaluate, evaluate_all, evaluate_at, evaluate_key,
+    is_true, place, sorts_of,
+};
 pub use failure::Failure;
 pub use reader::{Reader, Told};
 pub use receivers::Receivers;

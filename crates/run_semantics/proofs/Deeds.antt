@@ -3,7 +3,7 @@ use Rattle.std.proofs.Common.{◌≡◌, ◌∙◌, sym, subst, refl, ℕ, List,
 use Rattle.std.proofs.lemmas.Grind.{flat_map-append}
 use Rattle.std.proofs.lemmas.List.{map-append}
 use Rattle.port_model.specs.declared.values.item.SignalId.{SignalId}
-use Rattle.run_evaluation.specs.declared.identity.Identity.{Identity}
+use Rattle.run_record.specs.declared.evaluation.identity.Identity.{Identity}
 use Rattle.run_semantics.specs.Effect.{Effect, Deed, events_of, calls_of, effects_of}
 use Rattle.run_semantics.specs.World.{WorldValue, after_effect, after_effects, after_deeds, time_after, time_after_one, IsRouteBy, IsTrueOf, Living, MayReach}
 use Rattle.sdl_system.specs.System.{SystemValue}

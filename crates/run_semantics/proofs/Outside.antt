@@ -10,8 +10,8 @@ use Rattle.port_model.specs.declared.inbox.placed.Placed.{Placed}
 use Rattle.port_model.specs.History.{Expire, PortEvent, Put}
 use Rattle.port_model.specs.Laws.{IsFromOutside}
 use Rattle.port_model.specs.Port.{PortState, expire_in}
-use Rattle.run_evaluation.specs.declared.identity.Identity.{Identity}
-use Rattle.run_evaluation.specs.declared.store.Store.{Store}
+use Rattle.run_record.specs.declared.evaluation.identity.Identity.{Identity}
+use Rattle.run_record.specs.declared.evaluation.store.Store.{Store}
 use Rattle.run_semantics.specs.Effect.{Deed}
 use Rattle.run_semantics.specs.Goes.{drawn_as, entry_as}
 use Rattle.run_semantics.specs.ControlPoint.{Definition, ControlPoint}

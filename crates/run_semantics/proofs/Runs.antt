@@ -5,8 +5,8 @@ use Rattle.port_model.specs.History.{IsLegal, PortEvent, Take}
 use Rattle.port_model.specs.Laws.{IsFromOutside}
 use Rattle.port_model.specs.Port.{PortState}
 use Rattle.port_model.specs.declared.taken.Taken.TheVariants.{Nothing}
-use Rattle.run_evaluation.specs.declared.identity.Identity.{Identity}
-use Rattle.run_evaluation.specs.declared.store.Store.{Store}
+use Rattle.run_record.specs.declared.evaluation.identity.Identity.{Identity}
+use Rattle.run_record.specs.declared.evaluation.store.Store.{Store}
 use Rattle.run_semantics.specs.Effect.{Deed}
 use Rattle.run_semantics.specs.ControlPoint.{Definition, ControlPoint}
 use Rattle.run_semantics.specs.Runs.{Runs, still, acts, turns, hears, waits}

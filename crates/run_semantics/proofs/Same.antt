@@ -14,10 +14,10 @@ use Rattle.port_model.specs.declared.values.timer_key.TimerKey.{TimerKey}
 use Rattle.port_model.specs.History.{PortEvent}
 use Rattle.port_model.specs.declared.values.pid.Pid.TheVariants.{Of}
 use Rattle.port_model.specs.declared.selection.Class.{Class}
-use Rattle.run_evaluation.specs.Environment.{Environment, environment, sorts_of}
-use Rattle.run_evaluation.specs.Value.{truth_at, value_of}
-use Rattle.run_evaluation.specs.declared.identity.Identity.{Identity}
-use Rattle.run_evaluation.specs.declared.store.Store.{Store}
+use Rattle.run_record.specs.Environment.{Environment, environment, sorts_of}
+use Rattle.run_record.specs.Value.{truth_at, value_of}
+use Rattle.run_record.specs.declared.evaluation.identity.Identity.{Identity}
+use Rattle.run_record.specs.declared.evaluation.store.Store.{Store}
 use Rattle.run_record.specs.declared.failure.Failure.{Failure}
 use Rattle.run_semantics.specs.Fails.{FailsIn}
 use Rattle.run_semantics.specs.Leads.{Selecting}

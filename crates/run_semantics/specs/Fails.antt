@@ -10,11 +10,11 @@ use Rattle.port_model.specs.declared.taken.Taken.{Taken}
 use Rattle.port_model.specs.declared.taken.Taken.TheVariants.{Consumed, Discarded, Nothing}
 use Rattle.port_model.specs.declared.values.timer_key.TimerKey.{TimerKey}
 use Rattle.port_model.specs.declared.values.value.Value.{Value}
-use Rattle.run_evaluation.specs.Environment.{Environment, environment, sorts_of}
-use Rattle.run_evaluation.specs.Memory.{wants_memory}
-use Rattle.run_evaluation.specs.Value.{at_place, key_at, placed, value_at, value_of, values_at}
-use Rattle.run_evaluation.specs.declared.identity.Identity.{Identity}
-use Rattle.run_evaluation.specs.declared.store.Store.{Store}
+use Rattle.run_record.specs.Environment.{Environment, environment, sorts_of}
+use Rattle.run_record.specs.Memory.{wants_memory}
+use Rattle.run_record.specs.Value.{at_place, key_at, placed, value_at, value_of, values_at}
+use Rattle.run_record.specs.declared.evaluation.identity.Identity.{Identity}
+use Rattle.run_record.specs.declared.evaluation.store.Store.{Store}
 use Rattle.run_record.specs.declared.failure.Failure.{Failure}
 use Rattle.run_record.specs.declared.failure.Failure.TheVariants.{Memory, NoAnswer, Overflow, SetsSpent, TooLong, Undefined}
 use Rattle.run_semantics.specs.ControlPoint.{Amid, Definition, Doing, IsState, ControlPoint, Receiving}

@@ -10,8 +10,8 @@ use Rattle.port_model.specs.History.{Expire, PortEvent, Put, Take}
 use Rattle.port_model.specs.declared.selection.Class.{Class}
 use Rattle.port_model.specs.declared.selection.Class.TheVariants as class
 use Rattle.port_model.specs.declared.taken.Taken.TheVariants.{Nothing}
-use Rattle.run_evaluation.specs.declared.identity.Identity.{Identity}
-use Rattle.run_evaluation.specs.declared.store.Store.{Store}
+use Rattle.run_record.specs.declared.evaluation.identity.Identity.{Identity}
+use Rattle.run_record.specs.declared.evaluation.store.Store.{Store}
 use Rattle.run_record.specs.Event.{Event, is_beginning}
 use Rattle.run_record.specs.Event as event
 use Rattle.run_record.specs.declared.failure.Failure.{Failure}

@@ -4,10 +4,10 @@ use Rattle.port_model.specs.Ends.{OwnerState}
 use Rattle.port_model.specs.History.{PortEvent}
 use Rattle.port_model.specs.Port.{empty_port}
 use Rattle.port_model.specs.declared.values.value.Value.{Value}
-use Rattle.run_evaluation.specs.Environment.{initial_store}
-use Rattle.run_evaluation.specs.Variables.{VariableList}
-use Rattle.run_evaluation.specs.declared.identity.Identity.{Identity}
-use Rattle.run_evaluation.specs.declared.store.Store.{Store}
+use Rattle.run_record.specs.Environment.{initial_store}
+use Rattle.run_record.specs.Variables.{VariableList}
+use Rattle.run_record.specs.declared.evaluation.identity.Identity.{Identity}
+use Rattle.run_record.specs.declared.evaluation.store.Store.{Store}
 use Rattle.run_record.specs.Event.{Event}
 use Rattle.run_semantics.specs.Effect.{Deed, events_of}
 use Rattle.run_semantics.specs.Goes.{drawn_as}

@@ -6,8 +6,8 @@ use Rattle.port_model.specs.declared.got.Got.TheVariants.{Signal, Timer}
 use Rattle.port_model.specs.declared.values.pid.Pid.{Pid}
 use Rattle.port_model.specs.declared.values.pid.Pid.TheVariants.{Of}
 use Rattle.port_model.specs.declared.values.value.Value.{Value}
-use Rattle.run_evaluation.specs.declared.identity.Identity.{Identity}
-use Rattle.run_evaluation.specs.declared.store.Store.{Store}
+use Rattle.run_record.specs.declared.evaluation.identity.Identity.{Identity}
+use Rattle.run_record.specs.declared.evaluation.store.Store.{Store}
 use Rattle.sdl_system.specs.Behaviour.{Behaviour, Response, VariableMeaning, input, priority_input}
 use Rattle.sdl_system.specs.Body.{Body}
 use Rattle.sdl_system.specs.Term.{Term}

@@ -5,8 +5,8 @@ use Rattle.port_model.specs.Selection as selection
 use Rattle.port_model.specs.declared.values.item.SignalId.{SignalId}
 use Rattle.port_model.specs.declared.selection.Class.{Class}
 use Rattle.port_model.specs.declared.selection.Class.TheVariants as class
-use Rattle.run_evaluation.specs.Environment.{Environment}
-use Rattle.run_evaluation.specs.Value.{truth_at}
+use Rattle.run_record.specs.Environment.{Environment}
+use Rattle.run_record.specs.Value.{truth_at}
 use Rattle.run_record.specs.declared.failure.Failure.{Failure}
 use Rattle.sdl_system.specs.Behaviour.{Behaviour, ContinuousSignal, Response, StateMeaning, input, priority_input, response_to, save}
 use Rattle.sdl_system.specs.Term.{Term}

@@ -3,7 +3,7 @@ use Rattle.std.specs.Prelude.{◌≡◌, ◌==◌, ◌+◌, ◌&&◌, ◌||◌, 
 use Rattle.std.specs.Option.{option_map, option_map_or}
 use Rattle.port_model.specs.declared.values.item.Item.{Item}
 use Rattle.port_model.specs.declared.values.item.SignalId.{SignalId}
-use Rattle.run_evaluation.specs.declared.identity.Identity.{Identity}
+use Rattle.run_record.specs.declared.evaluation.identity.Identity.{Identity}
 use Rattle.run_record.specs.Event.{Event}
 use Rattle.run_record.specs.Event as event
 use Rattle.run_semantics.specs.Effect.{Effect, Create, Deed, Send}

@@ -1,8 +1,8 @@
 -- One step more on the way of an instance.
 use Rattle.std.proofs.Common.{◌≡◌, ◌∙◌, ℕ, ◌+◌, List, ◌∷◌, Option, None, Some, ap, refl, subst, sym}
 use Rattle.port_model.specs.Port.{PortState}
-use Rattle.run_evaluation.specs.Variables.{VariableList}
-use Rattle.run_evaluation.specs.declared.identity.Identity.{Identity}
+use Rattle.run_record.specs.Variables.{VariableList}
+use Rattle.run_record.specs.declared.evaluation.identity.Identity.{Identity}
 use Rattle.run_record.specs.Event.{Event}
 use Rattle.run_semantics.specs.Leads.{Counts}
 use Rattle.sdl_interp.specs.Walk.{ChoosesWay}

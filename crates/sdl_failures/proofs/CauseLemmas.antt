@@ -2,9 +2,9 @@
 use Rattle.std.proofs.Common.{◌≡◌, ◌≢◌, ◌⊎◌, ◌∙◌, ℕ, Bool, List, Option, Result, Ok, Err, ap, inl, inr, sym}
 use Rattle.port_model.specs.declared.values.timer_key.TimerKey.{TimerKey}
 use Rattle.port_model.specs.declared.values.value.Value.{Value}
-use Rattle.run_evaluation.specs.Environment.{Environment, sorts_of}
-use Rattle.run_evaluation.specs.Memory.{FailsAs}
-use Rattle.run_evaluation.specs.Value.{key_at, values_at}
+use Rattle.run_record.specs.Environment.{Environment, sorts_of}
+use Rattle.run_record.specs.Memory.{FailsAs}
+use Rattle.run_record.specs.Value.{key_at, values_at}
 use Rattle.run_record.specs.declared.failure.Failure.{Failure}
 use Rattle.run_record.specs.declared.failure.Failure.TheVariants.{Memory}
 use Rattle.run_semantics.specs.Fails.{both, due_by, named_by, sent_by, set_by}

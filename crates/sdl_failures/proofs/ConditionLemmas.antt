@@ -4,7 +4,7 @@ use Rattle.std.proofs.lemmas.List.{length-map}
 use Rattle.std.proofs.lemmas.Option.{same_Some, slice_get-get_or, slice_get-map}
 use Rattle.std.specs.Borrow.{Bor}
 use Rattle.std.specs.Slice.{IsItemAt}
-use Rattle.run_evaluation.specs.Environment.{Environment}
+use Rattle.run_record.specs.Environment.{Environment}
 use Rattle.run_record.specs.declared.failure.Failure.{Failure}
 use Rattle.sdl_system.specs.declared.id.ConditionId.{ConditionId}
 use Rattle.sdl_system.specs.declared.process.Process.{Process}

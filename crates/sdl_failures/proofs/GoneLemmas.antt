@@ -1,6 +1,6 @@
 -- A step to the next statement.
 use Rattle.std.proofs.Common.{◌≡◌, List, refl, subst, sym}
-use Rattle.run_evaluation.specs.Variables.{VariableList}
+use Rattle.run_record.specs.Variables.{VariableList}
 use Rattle.run_record.specs.Event.{Event}
 use Rattle.run_semantics.specs.Leads.{Counts}
 use Rattle.sdl_system.specs.declared.id.NodeId.{NodeId}

@@ -1,9 +1,9 @@
 -- What fails where an instance has come.
 use Rattle.std.specs.Prelude.{◌≡◌, ◌⊎◌, ◌<◌, ℕ, Bool, false, List, Option, Some, Result, Ok, Err, length, map, slice_get}
 use Rattle.std.specs.Option.{option_map}
-use Rattle.run_evaluation.specs.Environment.{Environment}
-use Rattle.run_evaluation.specs.Value.{at_place, key_at, truth_at, value_of, values_at}
-use Rattle.run_evaluation.specs.declared.store.Store.{Store}
+use Rattle.run_record.specs.Environment.{Environment}
+use Rattle.run_record.specs.Value.{at_place, key_at, truth_at, value_of, values_at}
+use Rattle.run_record.specs.declared.evaluation.store.Store.{Store}
 use Rattle.run_record.specs.declared.failure.Failure.{Failure}
 use Rattle.run_semantics.specs.Fails.{IsTooLong, parameters_of, sent_by, set_by}
 use Rattle.sdl_interp.specs.Walk.{HasNoWay, IsPassed}

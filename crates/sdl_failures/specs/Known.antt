@@ -1,8 +1,8 @@
 -- What an instance knows.
 use Rattle.port_model.specs.Port.{PortState}
-use Rattle.run_evaluation.specs.Environment.{Environment, environment}
-use Rattle.run_evaluation.specs.declared.identity.Identity.{Identity}
-use Rattle.run_evaluation.specs.declared.store.Store.{Store}
+use Rattle.run_record.specs.Environment.{Environment, environment}
+use Rattle.run_record.specs.declared.evaluation.identity.Identity.{Identity}
+use Rattle.run_record.specs.declared.evaluation.store.Store.{Store}
 use Rattle.sdl_system.specs.System.{SystemValue}
 
 -- its store, and its port, of which only the active timers count

@@ -1,7 +1,7 @@
 -- What is said of a failure is so.
 use Rattle.std.specs.Prelude.{◌≡◌, ◌≤◌, ◌^◌, ℕ, List, None, Some, IsErr, slice_get, string_bytes}
-use Rattle.run_evaluation.specs.Variables.{value_in}
-use Rattle.run_evaluation.specs.declared.store.Store.{Store}
+use Rattle.run_record.specs.Variables.{value_in}
+use Rattle.run_record.specs.declared.evaluation.store.Store.{Store}
 use Rattle.run_semantics.specs.Fails.{later}
 use Rattle.sdl_system.specs.Operation.{applied, applied_to_one}
 use Rattle.sdl_system.specs.Sort.{as_sort}

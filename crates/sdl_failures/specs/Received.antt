@@ -3,9 +3,9 @@ use Rattle.std.specs.Prelude.{◌++◌, List, [], ◌∷◌, Option, None, Some,
 use Rattle.std.specs.Option.{option_map}
 use Rattle.port_model.specs.declared.values.item.SignalId.{SignalId}
 use Rattle.port_model.specs.declared.values.value.Value.{Value}
-use Rattle.run_evaluation.specs.Value.{placed}
-use Rattle.run_evaluation.specs.Variables.{VariableList}
-use Rattle.run_evaluation.specs.declared.store.Store.{Store}
+use Rattle.run_record.specs.Value.{placed}
+use Rattle.run_record.specs.Variables.{VariableList}
+use Rattle.run_record.specs.declared.evaluation.store.Store.{Store}
 use Rattle.run_record.specs.declared.failure.Failure.{Failure}
 use Rattle.run_semantics.specs.Instance.{parameters_from}
 use Rattle.run_semantics.specs.Reception.{assigned}

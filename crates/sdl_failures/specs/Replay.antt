@@ -1,6 +1,6 @@
 -- A replay of a record, and its steps.
 use Rattle.std.specs.Prelude.{◌≡◌, ◌∷◌, ℕ, List, Option, Some}
-use Rattle.run_evaluation.specs.Variables.{VariableList}
+use Rattle.run_record.specs.Variables.{VariableList}
 use Rattle.run_record.specs.Event as event
 use Rattle.run_record.specs.Event.{Event}
 use Rattle.run_record.specs.declared.failure.Failure.{Failure}

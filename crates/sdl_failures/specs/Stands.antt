@@ -5,9 +5,9 @@ use Rattle.port_model.specs.declared.got.Got.{Got}
 use Rattle.port_model.specs.declared.values.item.SignalId.{SignalId}
 use Rattle.port_model.specs.declared.values.pid.Pid.TheVariants as pid
 use Rattle.port_model.specs.declared.values.value.Value.{Value}
-use Rattle.run_evaluation.specs.Value.{values_at}
-use Rattle.run_evaluation.specs.Variables.{VariableList}
-use Rattle.run_evaluation.specs.declared.identity.Identity.{Identity}
+use Rattle.run_record.specs.Value.{values_at}
+use Rattle.run_record.specs.Variables.{VariableList}
+use Rattle.run_record.specs.declared.evaluation.identity.Identity.{Identity}
 use Rattle.run_record.specs.Event.{Event, values_got}
 use Rattle.run_record.specs.Event as event
 use Rattle.run_record.specs.Record.{RecordValue}

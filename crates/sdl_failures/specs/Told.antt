@@ -5,7 +5,7 @@ use Rattle.port_model.specs.Take.{name_of}
 use Rattle.port_model.specs.declared.got.Got.{Got}
 use Rattle.port_model.specs.declared.got.Got.TheVariants.{Signal, Timer}
 use Rattle.port_model.specs.declared.values.pid.Pid.TheVariants.{Of}
-use Rattle.run_evaluation.specs.declared.store.Store.{Store}
+use Rattle.run_record.specs.declared.evaluation.store.Store.{Store}
 use Rattle.run_record.specs.Entry.{sender_of}
 use Rattle.run_record.specs.Event.{Event, values_got}
 use Rattle.run_record.specs.Event as event

@@ -4,8 +4,7 @@ ghost use Rattle.std.specs.Prelude.{◌≡◌};
 
 use crate::replayed::Known;
 use port_model::{Alone, SignalId, Ticks, Value};
-use run_evaluation::{Identity, Knowledge, evaluate, sorts_of};
-use run_record::Failure;
+use run_record::{Failure, Identity, Knowledge, evaluate, sorts_of};
 use sdl_system::{Expression, Process, Sort, System};
 use std::alloc::Global;
 

@@ -3,7 +3,7 @@ use Rattle.std.proofs.Common.{◌≡◌, ◌∙◌, sym, ap, subst, refl, ℕ, �
 use Rattle.std.proofs.lemmas.Option.{same_Some, slice_get-get_or, slice_get_within}
 use Rattle.std.proofs.lemmas.Slice.Zip.{AllZip-left, AllZip-right}
 use Rattle.port_model.specs.declared.values.item.SignalId.{SignalId}
-use Rattle.run_evaluation.specs.Environment.{Environment}
+use Rattle.run_record.specs.Environment.{Environment}
 use Rattle.sdl_interp.specs.Selected.{IsTried}
 use Rattle.run_semantics.specs.Reception.{Inputs, IsPriorityInput}
 use Rattle.run_semantics.specs.Selection.{Tried, begins, fails, none_true, tried}

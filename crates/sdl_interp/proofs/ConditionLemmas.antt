@@ -7,9 +7,9 @@ use Rattle.std.proofs.Math.ListN.{drop_of_length-le}
 use Rattle.std.proofs.lemmas.Option.{same_Some, slice_get-get_or, slice_get-map}
 use Rattle.std.proofs.lemmas.Slice.Zip.{AllZip-long}
 use Rattle.std.specs.List.{AllZip, list_any}
-use Rattle.run_evaluation.specs.Environment.{Environment}
-use Rattle.run_evaluation.specs.Memory.{FailsAs, wants_memory}
-use Rattle.run_evaluation.specs.Value.{truth_at}
+use Rattle.run_record.specs.Environment.{Environment}
+use Rattle.run_record.specs.Memory.{FailsAs, wants_memory}
+use Rattle.run_record.specs.Value.{truth_at}
 use Rattle.sdl_interp.specs.Condition.{are_conditions}
 use Rattle.run_record.specs.declared.failure.Failure.{Failure}
 use Rattle.run_record.specs.declared.failure.Failure.TheVariants.{Memory}

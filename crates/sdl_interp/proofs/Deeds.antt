@@ -9,8 +9,8 @@ use Rattle.port_model.specs.declared.values.pid.Pid.TheVariants.{Of}
 use Rattle.port_model.specs.declared.plain_port.TheConstants.{MOST_SETS}
 use Rattle.port_model.specs.declared.values.timer_key.TimerKey.{TimerKey}
 use Rattle.port_model.specs.declared.values.value.Value.{Value}
-use Rattle.run_evaluation.specs.Environment.{Environment, environment}
-use Rattle.run_evaluation.specs.Value.{at_place, key_at, value_of, values_at}
+use Rattle.run_record.specs.Environment.{Environment, environment}
+use Rattle.run_record.specs.Value.{at_place, key_at, value_of, values_at}
 use Rattle.run_record.specs.Event as event
 use Rattle.run_semantics.proofs.Deeds.{may_reach}
 use Rattle.run_semantics.proofs.Goes.{All-one, goes_deed, goes_stopped, goes_until}

@@ -5,9 +5,9 @@ use Rattle.std.specs.Option.{option_map}
 use Rattle.port_model.specs.declared.values.item.SignalId.{SignalId}
 use Rattle.port_model.specs.declared.values.timer_key.TimerKey.{TimerKey}
 use Rattle.port_model.specs.declared.values.value.Value.{Value}
-use Rattle.run_evaluation.specs.Environment.{Environment, environment, sorts_of}
-use Rattle.run_evaluation.specs.Knowledge.{KnowledgeValue, environment_of}
-use Rattle.run_evaluation.specs.Value.{at_place, key_at, value_of, values_at}
+use Rattle.run_record.specs.Environment.{Environment, environment, sorts_of}
+use Rattle.run_record.specs.Knowledge.{KnowledgeValue, environment_of}
+use Rattle.run_record.specs.Value.{at_place, key_at, value_of, values_at}
 use Rattle.run_record.specs.declared.failure.Failure.{Failure}
 use Rattle.run_semantics.specs.Fails.{both, due_by, named_by, sent_by, set_by}
 use Rattle.run_semantics.specs.ControlPoint.{Definition}

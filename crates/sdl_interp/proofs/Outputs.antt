@@ -4,7 +4,7 @@ use Rattle.port_model.specs.Ends.{OwnerState}
 use Rattle.port_model.specs.declared.inbox.entry.Entry.{Entry}
 use Rattle.port_model.specs.declared.values.pid.Pid.TheVariants.{Of}
 use Rattle.port_model.specs.declared.values.value.Value.{Value}
-use Rattle.run_evaluation.specs.Environment.{environment}
+use Rattle.run_record.specs.Environment.{environment}
 use Rattle.run_record.specs.Event as event
 use Rattle.run_record.specs.Event.{Event}
 use Rattle.run_record.specs.Record.{with_room}

@@ -7,10 +7,10 @@ use Rattle.port_model.specs.Take.{name_of}
 use Rattle.port_model.specs.declared.got.Got.{Got}
 use Rattle.port_model.specs.declared.selection.Class.{Class}
 use Rattle.port_model.specs.declared.taken.Taken.TheVariants.{Consumed, Nothing}
-use Rattle.run_evaluation.specs.Environment.{Environment, environment}
-use Rattle.run_evaluation.specs.Memory.{wants_memory}
-use Rattle.run_evaluation.specs.declared.identity.Identity.{Identity}
-use Rattle.run_evaluation.specs.declared.store.Store.{Store}
+use Rattle.run_record.specs.Environment.{Environment, environment}
+use Rattle.run_record.specs.Memory.{wants_memory}
+use Rattle.run_record.specs.declared.evaluation.identity.Identity.{Identity}
+use Rattle.run_record.specs.declared.evaluation.store.Store.{Store}
 use Rattle.sdl_interp.proofs.Bodies.{input_begins, priority_begins, table_means, tried_none}
 use Rattle.sdl_interp.proofs.First.{consumes, consumes_first, fails_taken}
 use Rattle.sdl_interp.specs.Selected.{IsTried}

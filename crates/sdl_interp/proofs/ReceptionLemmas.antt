@@ -4,8 +4,8 @@ use Rattle.std.proofs.lemmas.Option.{slice_get-map}
 use Rattle.port_model.specs.Ends.{OwnerState}
 use Rattle.port_model.specs.Port.{PortState}
 use Rattle.port_model.specs.declared.values.value.Value.{Value}
-use Rattle.run_evaluation.specs.Value.{placed}
-use Rattle.run_evaluation.specs.declared.store.Store.{Store}
+use Rattle.run_record.specs.Value.{placed}
+use Rattle.run_record.specs.declared.evaluation.store.Store.{Store}
 use Rattle.sdl_interp.specs.Stimulus.{HasVariables}
 use Rattle.run_record.specs.Record.{RecordValue}
 use Rattle.run_record.specs.declared.failure.Failure.{Failure}

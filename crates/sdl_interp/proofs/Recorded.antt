@@ -4,7 +4,7 @@ use Rattle.port_model.specs.Ends.{OwnerState}
 use Rattle.port_model.specs.declared.got.Got.{Got}
 use Rattle.port_model.specs.declared.values.pid.Pid.{Pid}
 use Rattle.port_model.specs.declared.values.pid.Pid.TheVariants.{Of}
-use Rattle.run_evaluation.specs.declared.store.Store.{Store}
+use Rattle.run_record.specs.declared.evaluation.store.Store.{Store}
 use Rattle.run_record.specs.Event as event
 use Rattle.run_record.specs.Event.{Event}
 use Rattle.run_record.specs.Record.{RecordValue, noted, with_room}

@@ -3,7 +3,7 @@ use Rattle.std.proofs.Common.{◌≡◌, ◌+◌, ◌<◌, List, [], ◌∷◌, 
 use Rattle.std.proofs.lemmas.List.Elements.{All-nil}
 use Rattle.std.specs.List.{AllZip}
 use Rattle.port_model.specs.Take.{IsSaved}
-use Rattle.run_evaluation.specs.Environment.{Environment, environment}
+use Rattle.run_record.specs.Environment.{Environment, environment}
 use Rattle.run_semantics.specs.ControlPoint.{Definition}
 use Rattle.sdl_interp.specs.declared.transitions.machine.Position.{Position}
 use Rattle.sdl_interp.specs.declared.transitions.machine.Position.TheVariants as at

@@ -11,9 +11,9 @@ use Rattle.port_model.specs.Selection as selection
 use Rattle.port_model.specs.declared.values.item.SignalId.{SignalId}
 use Rattle.port_model.specs.declared.selection.Class.{Class}
 use Rattle.port_model.specs.declared.selection.Class.TheVariants as class
-use Rattle.run_evaluation.specs.Environment.{Environment, environment}
-use Rattle.run_evaluation.specs.Value.{truth_at}
-use Rattle.run_evaluation.specs.Knowledge.{KnowledgeValue, environment_of}
+use Rattle.run_record.specs.Environment.{Environment, environment}
+use Rattle.run_record.specs.Value.{truth_at}
+use Rattle.run_record.specs.Knowledge.{KnowledgeValue, environment_of}
 use Rattle.sdl_interp.proofs.ConditionLemmas.{condition_at, none_fails, none_to_fail, truth_of_place}
 use Rattle.sdl_interp.specs.Condition.{are_conditions}
 use Rattle.sdl_interp.specs.Selected.{AreShut, IsShut, SelectsBy, SelectsNone}

@@ -2,7 +2,7 @@
 use Rattle.std.proofs.Common.{◌≡◌, ◌∙◌, ◌<◌, ◌≤◌, ◌-◌, ap, arith, refl, subst, sym, ℕ, List}
 use Rattle.port_model.specs.Ends.{OwnerState}
 use Rattle.port_model.specs.declared.inbox.entry.Entry.{Entry}
-use Rattle.run_evaluation.specs.declared.store.Store.{Store}
+use Rattle.run_record.specs.declared.evaluation.store.Store.{Store}
 use Rattle.run_record.specs.Event.{Event}
 use Rattle.run_record.specs.Record.{RecordValue, noted, with_room}
 use Rattle.run_record.specs.declared.failure.Failure.{Failure}

@@ -1,8 +1,8 @@
 -- What a chain of two known operands comes to.
 use Rattle.std.proofs.Common.{◌≡◌, ◌∙◌, ap, arith, sym, List, [], ◌∷◌, Ok, get_or, length, map}
 use Rattle.port_model.specs.declared.values.value.Value.{Value}
-use Rattle.run_evaluation.specs.Environment.{Environment}
-use Rattle.run_evaluation.specs.Value.{given, operated, value_of}
+use Rattle.run_record.specs.Environment.{Environment}
+use Rattle.run_record.specs.Value.{given, operated, value_of}
 use Rattle.sdl_system.specs.Operation.{applied}
 use Rattle.sdl_system.specs.Term.{Operand, Term, chain_step, chained, expression_step, link_step, operand_of, term_of, term_of_chain}
 use Rattle.sdl_system.specs.declared.expression.Chain.{Chain, out-Chain}

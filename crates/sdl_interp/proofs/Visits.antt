@@ -1,8 +1,8 @@
 -- What a node does, whatever stands where it begins.
 use Rattle.port_model.specs.declared.values.value.Value.{Value}
-use Rattle.run_evaluation.specs.Environment.{environment}
-use Rattle.run_evaluation.specs.Value as evaluated
-use Rattle.run_evaluation.specs.declared.store.Store.{Store}
+use Rattle.run_record.specs.Environment.{environment}
+use Rattle.run_record.specs.Value as evaluated
+use Rattle.run_record.specs.declared.evaluation.store.Store.{Store}
 use Rattle.run_record.specs.declared.failure.Failure.TheVariants.{Memory}
 use Rattle.run_record.specs.declared.failure.Failure.{Failure}
 use Rattle.run_semantics.proofs.Goes.{goes_on, goes_turn, wrong_here, wrong_on}

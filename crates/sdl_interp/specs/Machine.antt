@@ -1,7 +1,7 @@
 -- What the transitions of an instance work on, as the definitions see it.
 use Rattle.std.specs.Prelude.{◌<◌, length}
 use Rattle.port_model.specs.Ends.{OwnerState}
-use Rattle.run_evaluation.specs.declared.identity.Identity.{Identity}
+use Rattle.run_record.specs.declared.evaluation.identity.Identity.{Identity}
 use Rattle.run_record.specs.Record.{RecordValue}
 use Rattle.run_semantics.specs.Goes.{MachineValue}
 use Rattle.run_semantics.specs.ControlPoint.{AtStart, Ended, In, ControlPoint}

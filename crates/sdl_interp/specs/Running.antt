@@ -3,7 +3,7 @@ use Rattle.std.specs.Prelude.{◌≡◌, ◌≢◌, ◌<◌, ◌≤◌, ◌-◌,
 use Rattle.port_model.specs.Calls.{after_stop}
 use Rattle.port_model.specs.Ends.{OwnerState}
 use Rattle.port_model.specs.declared.inbox.entry.Entry.{Entry}
-use Rattle.run_evaluation.specs.Knowledge.{KnowledgeValue}
+use Rattle.run_record.specs.Knowledge.{KnowledgeValue}
 use Rattle.run_record.specs.Event.{Event, values_of}
 use Rattle.run_record.specs.Event as event
 use Rattle.run_record.specs.declared.failure.Failure.{Failure}

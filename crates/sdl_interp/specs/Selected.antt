@@ -6,10 +6,10 @@ use Rattle.port_model.specs.Selection as selection
 use Rattle.port_model.specs.declared.values.item.SignalId.{SignalId}
 use Rattle.port_model.specs.declared.selection.Class.{Class}
 use Rattle.port_model.specs.declared.selection.Class.TheVariants as class
-use Rattle.run_evaluation.specs.Environment.{environment}
-use Rattle.run_evaluation.specs.Knowledge.{KnowledgeValue}
-use Rattle.run_evaluation.specs.declared.identity.Identity.{Identity}
-use Rattle.run_evaluation.specs.declared.store.Store.{Store}
+use Rattle.run_record.specs.Environment.{environment}
+use Rattle.run_record.specs.Knowledge.{KnowledgeValue}
+use Rattle.run_record.specs.declared.evaluation.identity.Identity.{Identity}
+use Rattle.run_record.specs.declared.evaluation.store.Store.{Store}
 use Rattle.run_record.specs.declared.failure.Failure.{Failure}
 use Rattle.run_semantics.specs.Fails.{FailsIn}
 use Rattle.run_semantics.specs.Leads.{Selecting}

@@ -9,7 +9,7 @@ use Rattle.port_model.specs.declared.selection.Class.{Class}
 use Rattle.port_model.specs.declared.taken.Taken.{Taken}
 use Rattle.port_model.specs.declared.taken.Taken.TheVariants.{Nothing}
 use Rattle.port_model.specs.declared.values.value.Value.{Value}
-use Rattle.run_evaluation.specs.Environment.{environment}
+use Rattle.run_record.specs.Environment.{environment}
 use Rattle.sdl_interp.specs.Selected.{IsTried}
 use Rattle.run_record.specs.Event as event
 use Rattle.run_record.specs.Event.{values_got}

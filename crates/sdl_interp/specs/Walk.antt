@@ -3,10 +3,10 @@ use Rattle.std.specs.Prelude.{◌≡◌, ◌⊎◌, ◌+◌, ◌<◌, List, Opti
 use Rattle.port_model.specs.Ends.{OwnerState}
 use Rattle.port_model.specs.declared.inbox.entry.Entry.{Entry}
 use Rattle.port_model.specs.declared.values.value.Value.{Value}
-use Rattle.run_evaluation.specs.Environment.{Environment, environment}
-use Rattle.run_evaluation.specs.Memory.{FailsAs, wants_memory}
-use Rattle.run_evaluation.specs.Value as evaluated
-use Rattle.run_evaluation.specs.declared.store.Store.{Store}
+use Rattle.run_record.specs.Environment.{Environment, environment}
+use Rattle.run_record.specs.Memory.{FailsAs, wants_memory}
+use Rattle.run_record.specs.Value as evaluated
+use Rattle.run_record.specs.declared.evaluation.store.Store.{Store}
 use Rattle.run_record.specs.Event as event
 use Rattle.run_record.specs.declared.failure.Failure.{Failure}
 use Rattle.run_record.specs.declared.failure.Failure.TheVariants.{Memory, NoAnswer, Undefined}

@@ -1,17 +1,16 @@
 //! Conditions of a process: those of its inputs and of its continuous signals (Z.102: enabling condition).
 
 ghost use Rattle.std.specs.Prelude.{◌≡◌, ◌⊎◌, IfErr, IfOk, List, Ok, Some, map};
-ghost use Rattle.run_evaluation.specs.Knowledge.{environment_of};
-ghost use Rattle.run_evaluation.specs.Memory.{FailsAs, wants_memory};
-ghost use Rattle.run_evaluation.specs.Value.{truth_at};
+ghost use Rattle.run_record.specs.Knowledge.{environment_of};
+ghost use Rattle.run_record.specs.Memory.{FailsAs, wants_memory};
+ghost use Rattle.run_record.specs.Value.{truth_at};
 ghost use Rattle.sdl_interp.specs.Condition.{are_conditions};
 ghost use Rattle.run_semantics.specs.Selection.{first_failure};
 ghost use Rattle.sdl_system.specs.Behaviour.{condition_in};
 ghost use Rattle.sdl_system.specs.Term.{Term};
 
 use port_model::Inbox;
-use run_evaluation::{Knowledge, is_true};
-use run_record::Failure;
+use run_record::{Failure, Knowledge, is_true};
 use sdl_system::{ConditionId, Enabling, Process};
 use std::alloc::Global;
 

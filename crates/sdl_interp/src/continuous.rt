@@ -2,8 +2,8 @@
 
 ghost use Rattle.std.specs.Prelude.{◌≡◌, ◌⊎◌, IfErr, IfOk, List, true};
 ghost use Rattle.std.specs.List.{AllZip, list_any};
-ghost use Rattle.run_evaluation.specs.Knowledge.{environment_of};
-ghost use Rattle.run_evaluation.specs.Memory.{wants_memory};
+ghost use Rattle.run_record.specs.Knowledge.{environment_of};
+ghost use Rattle.run_record.specs.Memory.{wants_memory};
 ghost use Rattle.sdl_interp.specs.Selected.{IsTried};
 ghost use Rattle.run_semantics.specs.Fails.{conditions_of};
 ghost use Rattle.run_semantics.specs.Selection.{fails, tried};
@@ -12,8 +12,7 @@ ghost use Rattle.sdl_system.specs.declared.id.NodeId.{NodeId};
 
 use crate::condition::is_condition_true;
 use port_model::Inbox;
-use run_evaluation::Knowledge;
-use run_record::Failure;
+use run_record::{Failure, Knowledge};
 use sdl_system::{Continuous, Process};
 use std::alloc::Global;
 

@@ -2,7 +2,7 @@
 
 ghost use Rattle.std.specs.Prelude.{◌≡◌, ◌≤◌};
 ghost use Rattle.port_model.specs.Take as port;
-ghost use Rattle.run_evaluation.specs.declared.identity.Identity.{Identity};
+ghost use Rattle.run_record.specs.declared.evaluation.identity.Identity.{Identity};
 ghost use Rattle.run_record.specs.Event.{values_got};
 ghost use Rattle.run_semantics.specs.Reception as reception;
 ghost use Rattle.run_semantics.specs.Reception.{receiving};

@@ -5,8 +5,7 @@ ghost use Rattle.sdl_interp.specs.Stimulus.{Receives, ReceivesWrong};
 
 use crate::transitions::{Machine, sort_of};
 use port_model::Value;
-use run_evaluation::place;
-use run_record::Failure;
+use run_record::{Failure, place};
 use sdl_system::{Process, VariableId};
 
 /// Gives the values to the variables, one after the other. A value without a variable is dropped. Refused with

@@ -8,8 +8,7 @@ ghost use Rattle.sdl_system.specs.Soundness.{IsEnabled};
 
 use crate::condition::truths;
 use port_model::{Class, Inbox, Selection, SignalId};
-use run_evaluation::Knowledge;
-use run_record::Failure;
+use run_record::{Failure, Knowledge};
 use sdl_system::{Enabled, Process, StateTable};
 use std::alloc::Global;
 

@@ -1,4 +1,5 @@
 pub mod ErrorText
+pub mod One
 pub mod Part
 pub mod Reading
 pub mod Script

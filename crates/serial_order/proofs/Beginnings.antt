@@ -6,7 +6,7 @@ use Rattle.serial_order.proofs.Known.{AreKnown, IsKnown, known_as, known_new}
 use Rattle.serial_order.proofs.Numbers.{at_append}
 use Rattle.run_semantics.specs.Behaves.{AreBehaviours}
 use Rattle.serial_order.specs.RunState.{beginning, first_instances, first_of, instance_at, instance_of}
-use Rattle.run_evaluation.specs.declared.identity.Identity.{Identity}
+use Rattle.run_record.specs.declared.evaluation.identity.Identity.{Identity}
 use Rattle.sdl_interp.specs.Instance.{InstanceValue}
 use Rattle.sdl_script.specs.declared.script.ScriptLine.{ScriptLine}
 use Rattle.sdl_system.specs.Behaviour.{Behaviour}

@@ -15,7 +15,7 @@ use Rattle.serial_order.specs.RunState.{RunState, after_effect, after_effects, w
 use Rattle.serial_order.specs.Laws.{EachReadsTheClock}
 use Rattle.serial_order.specs.Times.{AreAt, AreTimed, IsAt, IsTimed}
 use Rattle.serial_order.specs.Told.{Moment, first_moment, moment_after}
-use Rattle.run_evaluation.specs.declared.identity.Identity.{Identity}
+use Rattle.run_record.specs.declared.evaluation.identity.Identity.{Identity}
 use Rattle.sdl_interp.specs.Instance.{InstanceValue}
 use Rattle.run_record.specs.Event as event
 use Rattle.run_record.specs.Event.{Event}

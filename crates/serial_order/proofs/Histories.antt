@@ -13,7 +13,7 @@ use Rattle.serial_order.specs.Execution.{Execution, Expired, Follows, Happening,
 use Rattle.serial_order.specs.RunState.{RunState, after_effects, world_at, beginning, living_of, heard_effects, instance_at, with_expiry, with_instance}
 use Rattle.serial_order.specs.Laws.{EachIsTold}
 use Rattle.serial_order.specs.Told.{Moment, comes_by, deeds_of, deeds_of_one, first_moment, given_after, history_from, history_of, history_of_one, moment_after}
-use Rattle.run_evaluation.specs.declared.identity.Identity.{Identity}
+use Rattle.run_record.specs.declared.evaluation.identity.Identity.{Identity}
 use Rattle.sdl_interp.specs.Instance.{InstanceValue}
 use Rattle.run_record.specs.Event.{Event}
 use Rattle.run_semantics.proofs.Acting.{runs_effects}

@@ -13,9 +13,9 @@ use Rattle.serial_order.proofs.Numbers.{at_change, at_more, eq_is, eq_of, length
 use Rattle.serial_order.proofs.Made.{IsProcess, MakeNext, MakesNext}
 use Rattle.serial_order.specs.RunState.{RunState, after_effect, after_effects, armed, change_at, instance_at, instance_of, sent_to, with_created, with_expiry, with_put}
 use Rattle.serial_order.specs.Told.{IsTold, Moment, comes_by, comes_by_one, expiry_by, given_after, given_after_one, is_there}
-use Rattle.run_evaluation.specs.Environment.{initial_store}
-use Rattle.run_evaluation.specs.Variables.{VariableList}
-use Rattle.run_evaluation.specs.declared.identity.Identity.{Identity}
+use Rattle.run_record.specs.Environment.{initial_store}
+use Rattle.run_record.specs.Variables.{VariableList}
+use Rattle.run_record.specs.declared.evaluation.identity.Identity.{Identity}
 use Rattle.sdl_interp.specs.Instance.{InstanceValue, variables_from}
 use Rattle.run_semantics.specs.Effect.{Effect, Arm, Create, Deed, Send}
 use Rattle.sdl_timers.specs.DueOrder.{with_fuse}

@@ -4,7 +4,7 @@ use Rattle.std.specs.Option.{option_map, option_map_or}
 use Rattle.std.proofs.lemmas.Option.{same_Some}
 use Rattle.port_model.specs.declared.values.value.Value.{Value}
 use Rattle.serial_order.specs.Told.{given_after, given_after_one}
-use Rattle.run_evaluation.specs.declared.identity.Identity.{Identity}
+use Rattle.run_record.specs.declared.evaluation.identity.Identity.{Identity}
 use Rattle.run_record.specs.Event as event
 use Rattle.run_record.specs.Event.{Event}
 use Rattle.run_semantics.proofs.Acting.{AreActs, AreActsOf}

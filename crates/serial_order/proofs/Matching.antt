@@ -11,7 +11,7 @@ use Rattle.serial_order.specs.Execution.{Execution, Expired, Follows, Happening,
 use Rattle.serial_order.specs.RunState.{RunState, beginning, heard_effects}
 use Rattle.serial_order.specs.Laws.{AreFromEnv, EachIsMatched}
 use Rattle.serial_order.specs.Told.{Moment, effects_by, comes_by, comes_by_one, expiry_by, first_moment, from, history_from, history_of_one, is_from, is_there, lines_of_one, moment_after, put_by, puts_of, sends_from}
-use Rattle.run_evaluation.specs.declared.identity.Identity.{Identity}
+use Rattle.run_record.specs.declared.evaluation.identity.Identity.{Identity}
 use Rattle.run_record.specs.Event as event
 use Rattle.run_record.specs.Event.{Event}
 use Rattle.run_semantics.proofs.Acting.{AreActs, AreActsOf, runs_effects}

@@ -3,7 +3,7 @@ use Rattle.std.specs.Prelude.{◌≡◌, ◌≢◌, ◌⊎◌, ◌+◌, ◌<◌,
 use Rattle.port_model.specs.declared.inbox.entry.Fuse.{Fuse}
 use Rattle.port_model.specs.Timers.{IsLeast, earlier}
 use Rattle.serial_order.specs.RunState.{RunState, after_effects, world_at, expired, heard_effects, instance_at, with_instance}
-use Rattle.run_evaluation.specs.declared.identity.Identity.{Identity}
+use Rattle.run_record.specs.declared.evaluation.identity.Identity.{Identity}
 use Rattle.sdl_interp.specs.Instance.{InstanceValue, IsQuietAt, IsRunAs, Keeps, work_of}
 use Rattle.run_record.specs.Event.{is_beginning}
 use Rattle.run_semantics.specs.Effect.{Effect, Deed, effects_of}

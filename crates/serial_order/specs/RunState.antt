@@ -9,7 +9,7 @@ use Rattle.port_model.specs.Port.{empty_port, put_into}
 use Rattle.port_model.specs.declared.values.item.Item.{Item}
 use Rattle.port_model.specs.declared.values.pid.Pid.TheVariants.{Null, Of}
 use Rattle.port_model.specs.declared.values.value.Value.{Value}
-use Rattle.run_evaluation.specs.declared.identity.Identity.{Identity}
+use Rattle.run_record.specs.declared.evaluation.identity.Identity.{Identity}
 use Rattle.sdl_interp.specs.Instance.{InstanceValue, created}
 use Rattle.run_semantics.specs.Effect.{Effect, Arm, Create, Send}
 use Rattle.run_semantics.specs.World.{Living, WorldValue}

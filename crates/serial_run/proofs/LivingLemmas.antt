@@ -9,7 +9,7 @@ use Rattle.std.proofs.lemmas.Option.{unwrap_or-slice_get}
 use Rattle.serial_order.specs.RunState.{living_of, count_living, is_ended, least_living, lives_of}
 use Rattle.serial_run.specs.Serial.{AreInPlace, HasEnded}
 use Rattle.serial_run.specs.declared.instances.Instances.{Instances}
-use Rattle.run_evaluation.specs.declared.identity.Identity.{Identity}
+use Rattle.run_record.specs.declared.evaluation.identity.Identity.{Identity}
 use Rattle.sdl_interp.specs.Instance.{InstanceValue}
 use Rattle.run_semantics.specs.World.{Living, count_in}
 use Rattle.sdl_system.specs.Route.{living_in}

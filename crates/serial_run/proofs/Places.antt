@@ -8,7 +8,7 @@ use Rattle.serial_order.specs.RunState.{living_of, count_living, instance_at, is
 use Rattle.serial_run.proofs.LivingLemmas.{count_cons}
 use Rattle.serial_run.specs.Serial.{AreInPlace, AreMarked, IsOfSystem, IsSerial}
 use Rattle.serial_run.specs.declared.instances.Instances.{Instances}
-use Rattle.run_evaluation.specs.declared.identity.Identity.{Identity}
+use Rattle.run_record.specs.declared.evaluation.identity.Identity.{Identity}
 use Rattle.sdl_interp.specs.Instance.{InstanceValue, IsAtRest, Keeps}
 use Rattle.serial_run.specs.Meanings.{all_at, there_is}
 use Rattle.sdl_interp.specs.declared.transitions.machine.Position.{Position}

@@ -4,8 +4,8 @@ use Rattle.port_model.proofs.Spent.{spent_legal, spent_step}
 use Rattle.port_model.specs.History.{PortEvent}
 use Rattle.port_model.specs.Port.{PortState, is_spent}
 use Rattle.port_model.specs.declared.values.timer_key.TimerKey.{TimerKey}
-use Rattle.run_evaluation.specs.declared.identity.Identity.{Identity}
-use Rattle.run_evaluation.specs.declared.store.Store.{Store}
+use Rattle.run_record.specs.declared.evaluation.identity.Identity.{Identity}
+use Rattle.run_record.specs.declared.evaluation.store.Store.{Store}
 use Rattle.run_semantics.specs.ControlPoint.{ControlPoint, Definition}
 use Rattle.run_semantics.specs.Effect.{Deed}
 use Rattle.run_semantics.specs.Runs.{Runs, acts, hears, still, turns, waits}

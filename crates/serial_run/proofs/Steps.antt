@@ -19,8 +19,8 @@ use Rattle.serial_run.proofs.Thinning.{spent_with, thins_more}
 use Rattle.serial_run.specs.Serial.{IsOfSystem, IsSerial, state_of}
 use Rattle.serial_run.specs.Thinned.{IsThinned, is_spent_in}
 use Rattle.serial_run.specs.declared.instances.Instances.{Instances}
-use Rattle.run_evaluation.specs.declared.identity.Identity.{Identity}
-use Rattle.run_evaluation.specs.declared.store.Store.{Store}
+use Rattle.run_record.specs.declared.evaluation.identity.Identity.{Identity}
+use Rattle.run_record.specs.declared.evaluation.store.Store.{Store}
 use Rattle.sdl_interp.specs.Instance.{InstanceValue, IsAtRest, IsIdle, IsQuietAt, IsRunAs, Keeps, Moves, work_of}
 use Rattle.sdl_interp.specs.Stimulus.{WaitsAt}
 use Rattle.run_semantics.proofs.Acting.{runs_effects}

@@ -11,7 +11,7 @@ use Rattle.port_model.specs.declared.values.item.Item.{Item}
 use Rattle.port_model.specs.declared.values.pid.Pid.TheVariants.{Of}
 use Rattle.port_model.specs.declared.values.value.Value.{Value}
 use Rattle.sdl_interp.specs.Instance.{InstanceValue}
-use Rattle.run_evaluation.specs.declared.identity.Identity.{Identity}
+use Rattle.run_record.specs.declared.evaluation.identity.Identity.{Identity}
 use Rattle.run_semantics.specs.Effect.{Create, Effect}
 use Rattle.serial_run.specs.Serial.{state_of}
 use Rattle.serial_run.specs.Thinned.{IsThinned, is_spent_in, is_spent_of}

@@ -14,7 +14,7 @@ ghost use Rattle.serial_sweeps.specs.Sweeps.{Moment, at_agenda};
 use crate::instances::Instances;
 use crate::world::{Effect, Effects};
 use port_model::{Alone, Fuse, Item, Pid, Values};
-use run_evaluation::Identity;
+use run_record::Identity;
 use sdl_interp::Instance;
 use sdl_script::ScriptLine;
 use sdl_system::{Process, ProcessId, Source, Target};

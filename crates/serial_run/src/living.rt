@@ -5,7 +5,7 @@ ghost use Rattle.serial_order.specs.RunState.{living_of, least_living};
 ghost use Rattle.serial_run.specs.Serial.{HasEnded};
 
 use crate::instances::Instances;
-use run_evaluation::Identity;
+use run_record::Identity;
 use sdl_interp::Position;
 use sdl_system::ProcessId;
 

@@ -4,7 +4,7 @@ use Rattle.std.specs.Prelude.{Contains, filter, map, slice_get, slice_set, unwra
 use Rattle.std.proofs.lemmas.List.{map-append}
 use Rattle.std.proofs.lemmas.List.Elements.{All-nil, All-push, All-same, All-weaker, Contains-append_left, Contains-push, filter-append}
 use Rattle.port_model.specs.Timers.{IsLeast, earlier}
-use Rattle.run_evaluation.specs.declared.identity.Identity.{Identity}
+use Rattle.run_record.specs.declared.evaluation.identity.Identity.{Identity}
 use Rattle.sdl_system.specs.declared.id.ProcessId.{ProcessId}
 use Rattle.settle_checks.specs.Least.{Adds, HasLeast}
 use Rattle.settle_meaning.specs.Living.{is_instance_of, numbers_of}

@@ -1,6 +1,6 @@
 -- What the checks ask of an event.
 use Rattle.std.specs.Prelude.{◌≡◌, ℕ, Contains, List, Option, None, Some}
-use Rattle.run_evaluation.specs.declared.identity.Identity.{Identity}
+use Rattle.run_record.specs.declared.evaluation.identity.Identity.{Identity}
 use Rattle.run_record.specs.Event as event
 use Rattle.run_record.specs.Event.{Event}
 use Rattle.run_record.specs.Record.{RecordValue}

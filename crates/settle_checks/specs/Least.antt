@@ -1,7 +1,7 @@
 -- The least numbers of the instances of each process.
 use Rattle.std.specs.Prelude.{◌≡◌, ◌<◌, ℕ, List, Option, Some, filter, length, map, slice_set}
 use Rattle.port_model.specs.Timers.{IsLeast, earlier}
-use Rattle.run_evaluation.specs.declared.identity.Identity.{Identity}
+use Rattle.run_record.specs.declared.evaluation.identity.Identity.{Identity}
 use Rattle.run_record.specs.Record.{RecordValue}
 use Rattle.sdl_system.specs.Route.{living_in}
 use Rattle.sdl_system.specs.declared.id.ProcessId.{ProcessId}

@@ -4,7 +4,7 @@ use Rattle.std.specs.List.{AllZip, flat_map, list_any}
 use Rattle.port_model.specs.declared.got.Got as got
 use Rattle.port_model.specs.declared.got.Got.TheVariants as came
 use Rattle.port_model.specs.declared.values.pid.Pid.TheVariants.{Of}
-use Rattle.run_evaluation.specs.declared.identity.Identity.{Identity}
+use Rattle.run_record.specs.declared.evaluation.identity.Identity.{Identity}
 use Rattle.run_record.specs.Event as event
 use Rattle.run_record.specs.Event.{Event, is_beginning}
 use Rattle.run_record.specs.Record.{RecordValue}

@@ -4,8 +4,8 @@ use Rattle.port_model.specs.History.{PortEvent, Take}
 use Rattle.port_model.specs.Port.{PortState}
 use Rattle.port_model.specs.declared.selection.Class.{Class}
 use Rattle.port_model.specs.declared.taken.Taken.TheVariants.{Nothing}
-use Rattle.run_evaluation.specs.declared.identity.Identity.{Identity}
-use Rattle.run_evaluation.specs.declared.store.Store.{Store}
+use Rattle.run_record.specs.declared.evaluation.identity.Identity.{Identity}
+use Rattle.run_record.specs.declared.evaluation.store.Store.{Store}
 use Rattle.run_semantics.proofs.Outside.{Runs-drawn}
 use Rattle.run_semantics.specs.ControlPoint.{Closed, ControlPoint, Definition, In}
 use Rattle.run_semantics.specs.Effect.{Deed}

@@ -5,7 +5,7 @@ use Rattle.port_model.specs.Port.{PortState, empty_port, expire_in}
 use Rattle.port_model.specs.declared.values.item.Item.{Item}
 use Rattle.port_model.specs.declared.values.timer_key.TimerKey.{TimerKey}
 use Rattle.port_model.specs.declared.values.value.Value.{Value}
-use Rattle.run_evaluation.specs.declared.store.Store.{Store}
+use Rattle.run_record.specs.declared.evaluation.store.Store.{Store}
 use Rattle.run_record.specs.Record.{RecordValue}
 use Rattle.run_semantics.specs.ControlPoint.{AtStart, ControlPoint}
 use Rattle.run_semantics.specs.Effect.{Deed, events_of}

@@ -3,7 +3,7 @@ use Rattle.std.specs.Prelude.{◌≡◌, ◌==◌, ◌<◌, ◌≤◌, ◌+◌, 
 use Rattle.std.specs.List.{flat_map, list_any}
 use Rattle.std.specs.Option.{option_map_or}
 use Rattle.port_model.specs.declared.values.pid.Pid.TheVariants.{Null, Of}
-use Rattle.run_evaluation.specs.declared.identity.Identity.{Identity}
+use Rattle.run_record.specs.declared.evaluation.identity.Identity.{Identity}
 use Rattle.run_record.specs.Event as event
 use Rattle.run_record.specs.Event.{Event}
 use Rattle.run_record.specs.Record.{RecordValue}

@@ -7,8 +7,8 @@ use Rattle.port_model.specs.History.{IsLegal, PortEvent, Take}
 use Rattle.port_model.specs.Port.{PortState, empty_port}
 use Rattle.port_model.specs.declared.selection.Class.{Class}
 use Rattle.port_model.specs.declared.taken.Taken.TheVariants.{Nothing}
-use Rattle.run_evaluation.specs.declared.identity.Identity.{Identity}
-use Rattle.run_evaluation.specs.declared.store.Store.{Store}
+use Rattle.run_record.specs.declared.evaluation.identity.Identity.{Identity}
+use Rattle.run_record.specs.declared.evaluation.store.Store.{Store}
 use Rattle.run_record.specs.Event as event
 use Rattle.run_record.specs.declared.record.Report.{Report}
 use Rattle.run_semantics.specs.ControlPoint.{Closed, ControlPoint, Definition, In}

@@ -6,7 +6,7 @@ use Rattle.port_model.specs.Ends.{OwnerState}
 use Rattle.port_model.specs.Port.{empty_port}
 use Rattle.port_model.specs.declared.values.item.Item.{Item}
 use Rattle.port_model.specs.declared.values.value.Value.{Value}
-use Rattle.run_evaluation.specs.declared.identity.Identity.{Identity}
+use Rattle.run_record.specs.declared.evaluation.identity.Identity.{Identity}
 use Rattle.run_record.specs.Event.{Event}
 use Rattle.run_semantics.specs.Effect.{Effect}
 use Rattle.run_semantics.specs.Sent.{sent_to}

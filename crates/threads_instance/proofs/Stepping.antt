@@ -5,7 +5,7 @@ use Rattle.std.specs.declared.alloc.Global.{Global}
 use Rattle.crossbeam_queue.specs.SegTies.{SegId}
 use Rattle.std.proofs.lemmas.Option.{same_Some}
 use Rattle.port_model.specs.declared.values.item.Item.{Item}
-use Rattle.run_evaluation.specs.declared.identity.Identity.{Identity}
+use Rattle.run_record.specs.declared.evaluation.identity.Identity.{Identity}
 use Rattle.sdl_interp.specs.Instance.{EndsBy, InstanceValue, IsIdle, IsRunAs, Keeps, Moves, Steps, work_of}
 use Rattle.sdl_interp.specs.Stimulus.{WaitsAt}
 use Rattle.sdl_interp.specs.declared.instance.Stepped.{Stepped}

@@ -3,8 +3,8 @@
 use Rattle.std.specs.Prelude.{◌≡◌, Bool, List}
 use Rattle.port_model.specs.Ends.{OwnerState}
 use Rattle.port_model.specs.declared.values.value.Value.{Value}
-use Rattle.run_evaluation.specs.declared.identity.Identity.{Identity}
-use Rattle.run_evaluation.specs.declared.store.Store.{Store}
+use Rattle.run_record.specs.declared.evaluation.identity.Identity.{Identity}
+use Rattle.run_record.specs.declared.evaluation.store.Store.{Store}
 use Rattle.run_record.specs.Event.{Event}
 use Rattle.run_semantics.specs.ControlPoint.{ControlPoint, Definition}
 use Rattle.run_semantics.specs.Effect.{Effect, effects_of}

@@ -8,7 +8,7 @@ ghost use Rattle.threads_shared.specs.Making.{IsMade, IsSpent, LivesSince};
 use crate::shared::{Seated, Shared};
 use input_port::{Held, Owner, Port};
 use port_model::{Pid, Values};
-use run_evaluation::Identity;
+use run_record::Identity;
 use sdl_system::ProcessId;
 use std::alloc::AllocError;
 use std::sync::Wait;

@@ -2,9 +2,9 @@
 
 ghost use Rattle.std.specs.Prelude.{◌≡◌, ◌≢◌, ◌⊎◌, Ok, Err, IfErr, IfOk, map, option_copied, take, true};
 ghost use Rattle.std.specs.Option.{option_map};
-ghost use Rattle.run_evaluation.specs.Environment.{sorts_of};
-ghost use Rattle.run_evaluation.specs.Knowledge.{environment_of};
-ghost use Rattle.run_evaluation.specs.Value.{values_at};
+ghost use Rattle.run_record.specs.Environment.{sorts_of};
+ghost use Rattle.run_record.specs.Knowledge.{environment_of};
+ghost use Rattle.run_record.specs.Value.{values_at};
 ghost use Rattle.run_semantics.specs.Fails.{due_by, later, named_by, parameters_of, ticks};
 ghost use Rattle.sdl_system.specs.Table.{when_due, whither_of};
 ghost use Rattle.sdl_system.specs.Term.{term_of};
@@ -12,8 +12,7 @@ ghost use Rattle.sdl_failures.specs.Fails.{AssignmentFails, CreationFails, Decis
 ghost use Rattle.sdl_failures.specs.Part.{HasPart};
 
 use port_model::{Alone, Ticks};
-use run_evaluation::{Knowledge, evaluate, evaluate_all, evaluate_at, evaluate_key};
-use run_record::Failure;
+use run_record::{Failure, Knowledge, evaluate, evaluate_all, evaluate_at, evaluate_key};
 use sdl_interp::sort_of;
 use sdl_system::{
     Assignment, Creation, Decision, Dest, Destination, Due, Output, Process, ProcessId, Sending,

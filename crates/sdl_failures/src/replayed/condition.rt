@@ -1,13 +1,12 @@
 //! The conditions of a state.
 
 ghost use Rattle.std.specs.Prelude.{◌≡◌, ◌≢◌, ◌⊎◌, IfErr, IfOk, IfSome, Ok, OnOk, length};
-ghost use Rattle.run_evaluation.specs.Knowledge.{environment_of};
+ghost use Rattle.run_record.specs.Knowledge.{environment_of};
 ghost use Rattle.sdl_failures.specs.Fails.{ComesTo, ContinuousFails, EachBefore, EnablingFails, HasTruth, IsStop, StopsAt, StopsContinuous, StopsEnabling, StopsIn, enabling_of};
 
 use crate::replayed::cause::is_same;
 use port_model::Alone;
-use run_evaluation::{Knowledge, is_true};
-use run_record::Failure;
+use run_record::{Failure, Knowledge, is_true};
 use sdl_system::{ConditionId, Process, StateTable};
 use std::alloc::Global;
 

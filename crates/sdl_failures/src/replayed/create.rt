@@ -2,7 +2,7 @@
 
 ghost use Rattle.std.specs.Prelude.{◌≡◌, ◌<◌, Contains, IfOk, IfSome, List, Some, slice_get, true};
 ghost use Rattle.sdl_system.specs.declared.process.Process as processes;
-ghost use Rattle.run_evaluation.specs.Variables.{VariableList};
+ghost use Rattle.run_record.specs.Variables.{VariableList};
 ghost use Rattle.port_model.specs.Value.{ValueList};
 ghost use Rattle.run_record.specs.Entry.{event_of};
 ghost use Rattle.run_record.specs.Event as event;
@@ -18,8 +18,7 @@ use crate::replayed::replay::Replay;
 use crate::replayed::split::{Goal, events_before};
 use crate::replayed::spot::Spot;
 use port_model::{Pid, Value, Values};
-use run_evaluation::{Variables, evaluate_all};
-use run_record::{Entry, Record};
+use run_record::{Entry, Record, Variables, evaluate_all};
 use sdl_system::{Creation, Process, ProcessId, Statement, System};
 use std::alloc::{AllocError, Global};
 

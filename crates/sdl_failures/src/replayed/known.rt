@@ -2,12 +2,12 @@
 
 ghost use Rattle.std.specs.Prelude.{◌≡◌, ◌≤◌, false, true};
 ghost use Rattle.port_model.specs.Port.{empty_port};
-ghost use Rattle.run_evaluation.specs.Environment.{initial_store};
+ghost use Rattle.run_record.specs.Environment.{initial_store};
 ghost use Rattle.run_semantics.specs.Fails.{most_statements};
 ghost use Rattle.run_semantics.specs.Leads.{Counts};
 
 use port_model::Alone;
-use run_evaluation::{Identity, Knowledge, Store, Variables};
+use run_record::{Identity, Knowledge, Store, Variables};
 use sdl_system::System;
 use std::alloc::Global;
 use std::marker::Model;

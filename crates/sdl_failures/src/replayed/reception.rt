@@ -1,12 +1,11 @@
 //! What an instance gets with a signal (Z.102: input).
 
 ghost use Rattle.std.specs.Prelude.{◌≡◌, Err, IfSome, Ok, option_copied, true};
-ghost use Rattle.run_evaluation.specs.declared.store.Store as stores;
+ghost use Rattle.run_record.specs.declared.evaluation.store.Store as stores;
 ghost use Rattle.sdl_failures.specs.Received.{received, reception_in};
 
 use port_model::{SignalId, Value};
-use run_evaluation::{Store, place};
-use run_record::Failure;
+use run_record::{Failure, Store, place};
 use sdl_interp::sort_of;
 use sdl_system::{Process, Reaction, Reception, StateId, VariableId};
 

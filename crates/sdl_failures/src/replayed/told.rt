@@ -13,8 +13,7 @@ ghost use Rattle.run_record.specs.Event.{values_got};
 use crate::replayed::known::Known;
 use crate::replayed::reception::{receive, reception_in};
 use port_model::{Alone, Inbox, Pid, SignalId, Ticks, TimerKey, Value, Values};
-use run_evaluation::Store;
-use run_record::{Entry, Origin, Stimulus};
+use run_record::{Entry, Origin, Stimulus, Store};
 use sdl_system::{Process, StateId};
 use std::alloc::{AllocError, Global};
 

@@ -13,7 +13,7 @@ use crate::replayed::part::{does_part, parts_of};
 use crate::replayed::replay::Replay;
 use crate::replayed::split::Goal;
 use crate::replayed::spot::Spot;
-use run_evaluation::evaluate;
+use run_record::evaluate;
 use sdl_system::{Decision, Node, NodeId, Statement};
 use std::alloc::{AllocError, Global};
 

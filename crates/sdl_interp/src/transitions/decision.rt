@@ -1,9 +1,9 @@
 //! Decisions (Z.102: decision).
 
 ghost use Rattle.std.specs.Prelude.{◌≡◌, ◌⊎◌, IfErr, IfOk, OnErr, OnOk};
-ghost use Rattle.run_evaluation.specs.Knowledge.{environment_of};
-ghost use Rattle.run_evaluation.specs.Memory.{FailsAs, wants_memory};
-ghost use Rattle.run_evaluation.specs.Value.{value_of};
+ghost use Rattle.run_record.specs.Knowledge.{environment_of};
+ghost use Rattle.run_record.specs.Memory.{FailsAs, wants_memory};
+ghost use Rattle.run_record.specs.Value.{value_of};
 ghost use Rattle.run_semantics.specs.Leads.{Counts};
 ghost use Rattle.sdl_interp.specs.Running.{GoesOn};
 ghost use Rattle.sdl_interp.specs.Walk.{CantChooseIn, Chooses, ChoosesWay, HasNoWay};
@@ -12,8 +12,7 @@ ghost use Rattle.sdl_system.specs.Term.{term_of};
 use crate::transitions::count::with_one_more;
 use crate::transitions::running::Core;
 use port_model::Inbox;
-use run_evaluation::{Knowledge, evaluate};
-use run_record::Failure;
+use run_record::{Failure, Knowledge, evaluate};
 use sdl_system::{Decision, Way};
 use std::alloc::Global;
 

@@ -4,8 +4,7 @@ ghost use Rattle.std.specs.Prelude.{◌≡◌, ◌≤◌, IfErr, OnOk};
 ghost use Rattle.run_record.specs.Record.{with_room};
 ghost use Rattle.sdl_interp.specs.Machine.{identity_of};
 
-use run_evaluation::{Identity, Store};
-use run_record::{Failure, Record};
+use run_record::{Failure, Identity, Record, Store};
 use sdl_system::StateId;
 
 /// Where an instance is between two steps.

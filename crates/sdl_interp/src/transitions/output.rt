@@ -2,9 +2,9 @@
 
 ghost use Rattle.std.specs.Prelude.{◌≡◌, ◌⊎◌, ◌<◌, ◌≤◌, ◌∷◌, [], IfErr, IfOk, List, length, OnErr, OnOk, Ok, Err, map, option_copied};
 ghost use Rattle.std.specs.Option.{option_map};
-ghost use Rattle.run_evaluation.specs.Knowledge.{environment_of};
-ghost use Rattle.run_evaluation.specs.Memory.{FailsAs, list_wants_memory};
-ghost use Rattle.run_evaluation.specs.Value.{values_at};
+ghost use Rattle.run_record.specs.Knowledge.{environment_of};
+ghost use Rattle.run_record.specs.Memory.{FailsAs, list_wants_memory};
+ghost use Rattle.run_record.specs.Value.{values_at};
 ghost use Rattle.run_semantics.specs.Fails.{named_by};
 ghost use Rattle.sdl_interp.specs.Output.{Sends};
 ghost use Rattle.sdl_interp.specs.Running.{GoesOn, StaysAmid, WorksSame};
@@ -16,8 +16,7 @@ ghost use Rattle.sdl_system.specs.Term.{term_of};
 use crate::transitions::machine::make_room;
 use crate::transitions::running::Core;
 use port_model::{Inbox, Item, Pid, SignalId, Value, Values};
-use run_evaluation::{Knowledge, evaluate_all, evaluate_at, sorts_of};
-use run_record::Failure;
+use run_record::{Failure, Knowledge, evaluate_all, evaluate_at, sorts_of};
 use run_semantics::World;
 use sdl_system::{Dest, Destination, Expression, Output, Sending, Sort, Target, pid_of};
 use std::alloc::Global;

@@ -5,8 +5,7 @@ ghost use Rattle.sdl_interp.specs.Running.{GoesOn, failed, known_by, seen};
 
 use crate::transitions::machine::Machine;
 use port_model::Inbox;
-use run_evaluation::Knowledge;
-use run_record::Failure;
+use run_record::{Failure, Knowledge};
 use sdl_system::{Process, System};
 
 /// An instance in the midst of a step: the system and the process that it is of, what it knows and did so far, and its

@@ -3,16 +3,16 @@
 ghost use Rattle.std.specs.Prelude.{◌≡◌, IfSome, Ok, Some};
 ghost use Rattle.port_model.specs.Port.{PortState};
 ghost use Rattle.port_model.specs.declared.values.value.Value.TheVariants.{Int};
-ghost use Rattle.run_evaluation.specs.Environment.{environment};
-ghost use Rattle.run_evaluation.specs.Value.{at_place, given, value_of};
-ghost use Rattle.run_evaluation.specs.declared.identity.Identity as identity;
+ghost use Rattle.run_record.specs.Environment.{environment};
+ghost use Rattle.run_record.specs.Value.{at_place, given, value_of};
+ghost use Rattle.run_record.specs.declared.evaluation.identity.Identity as identity;
 ghost use Rattle.sdl_system.specs.Operation.{applied};
 ghost use Rattle.sdl_system.specs.System.{SystemValue};
 ghost use Rattle.sdl_system.specs.Term.{term_of, term_of_chain};
 ghost use Rattle.sdl_system.specs.declared.sort.Sort.TheVariants.{Integer};
 
 use port_model::Value;
-use run_evaluation::Store;
+use run_record::Store;
 use sdl_system::{Arithmetic, Chain, Expression, NumberSort, Operation, Sort};
 
 /// The sum or the difference of two integers, each a literal or a variable with a value, at an Integer place. None: it

@@ -16,8 +16,7 @@ use crate::transitions::running::Core;
 use crate::transitions::sum::sum_at;
 use crate::transitions::variable::sort_of;
 use port_model::{Inbox, Value};
-use run_evaluation::evaluate_at;
-use run_record::Failure;
+use run_record::{Failure, evaluate_at};
 use sdl_system::{Assignment, VariableId};
 use std::alloc::Global;
 

@@ -1,7 +1,7 @@
 //! Timers (Z.102: set, reset).
 
 ghost use Rattle.std.specs.Prelude.{◌≡◌, ◌⊎◌, ◌∷◌, [], IfErr, IfOk, List, OnErr, OnOk, Ok, Err, map};
-ghost use Rattle.run_evaluation.specs.Knowledge.{environment_of};
+ghost use Rattle.run_record.specs.Knowledge.{environment_of};
 ghost use Rattle.run_semantics.specs.Fails.{due_by, later, ticks};
 ghost use Rattle.run_semantics.specs.World.{WorldValue};
 ghost use Rattle.sdl_interp.specs.Running.{GoesOn, StaysAmid, WorksSame};
@@ -12,8 +12,7 @@ ghost use Rattle.sdl_system.specs.Table.{setting, timing, when_due};
 use crate::transitions::machine::make_room;
 use crate::transitions::running::Core;
 use port_model::{Inbox, PortError, Ticks};
-use run_evaluation::{Knowledge, evaluate_at, evaluate_key};
-use run_record::Failure;
+use run_record::{Failure, Knowledge, evaluate_at, evaluate_key};
 use run_semantics::World;
 use sdl_system::{Due, Setting, Sort, TimerUse, number_of};
 use std::alloc::Global;

@@ -9,8 +9,7 @@ use crate::summing::creating::Birth;
 use crate::summing::flows::is_same_pid;
 use crate::summing::summary::Summary;
 use port_model::Pid;
-use run_evaluation::Identity;
-use run_record::Record;
+use run_record::{Identity, Record};
 use sdl_system::{Process, ProcessId, System};
 use std::alloc::{AllocError, Global};
 

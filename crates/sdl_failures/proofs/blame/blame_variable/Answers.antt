@@ -1,7 +1,7 @@
 -- The variable has this name, and no value.
 use Rattle.std.proofs.Common.{◌≡◌, ◌∙◌, List, Some, ap, slice_get, subst, sym}
-use Rattle.run_evaluation.specs.Variables.{value_in}
-use Rattle.run_evaluation.specs.declared.store.Store.{Store}
+use Rattle.run_record.specs.Variables.{value_in}
+use Rattle.run_record.specs.declared.evaluation.store.Store.{Store}
 use Rattle.sdl_system.specs.declared.process.Variable.{Variable}
 use Rattle.sdl_failures.proofs.ReadLemmas.{item_read}
 use Rattle.sdl_failures.proofs.blame.blame_variable.Goals as goal

@@ -1,7 +1,7 @@
 use Rattle.std.proofs.Common.{add-one, length, refl}
 use Rattle.std.proofs.lemmas.Option.{slice_get_read}
 use Rattle.std.proofs.lemmas.Result.{err_from_is_err_and}
-use Rattle.run_evaluation.specs.Knowledge.{environment_of}
+use Rattle.run_record.specs.Knowledge.{environment_of}
 use Rattle.sdl_interp.proofs.ConditionLemmas.{condition_at, failed_at, truths_more}
 use Rattle.sdl_interp.proofs.condition.truths.Goals as goal
 

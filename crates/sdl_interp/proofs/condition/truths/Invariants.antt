@@ -1,6 +1,6 @@
 use Rattle.std.proofs.Common.{◌≡◌, List, Ok, Some, map, take}
-use Rattle.run_evaluation.specs.Knowledge.{environment_of}
-use Rattle.run_evaluation.specs.Value.{truth_at}
+use Rattle.run_record.specs.Knowledge.{environment_of}
+use Rattle.run_record.specs.Value.{truth_at}
 use Rattle.sdl_interp.specs.Condition.{are_conditions}
 use Rattle.sdl_system.specs.Term.{Term}
 use Rattle.sdl_interp.proofs.condition.truths.Given as goal

@@ -1,8 +1,8 @@
 use Rattle.std.proofs.Common.{◌≡◌, ◌∙◌, Bool, true, false, Ok, None, Some, ap, add-one, get_or, subst, sym}
 use Rattle.std.proofs.lemmas.Option.{slice_get-get_or}
 use Rattle.std.proofs.lemmas.Result.{err_from_is_err_and}
-use Rattle.run_evaluation.specs.Knowledge.{environment_of}
-use Rattle.run_evaluation.specs.Value.{truth_at}
+use Rattle.run_record.specs.Knowledge.{environment_of}
+use Rattle.run_record.specs.Value.{truth_at}
 use Rattle.sdl_interp.proofs.ConditionLemmas.{begins_there, ends_failing, meets_at, none_left, passes}
 use Rattle.sdl_interp.specs.Selected.{IsTried}
 use Rattle.run_semantics.specs.Selection.{Tried}

@@ -1,6 +1,6 @@
 use Rattle.std.proofs.Common.{◌≡◌, List, drop}
 use Rattle.std.specs.List.{AllZip}
-use Rattle.run_evaluation.specs.Knowledge.{environment_of}
+use Rattle.run_record.specs.Knowledge.{environment_of}
 use Rattle.run_semantics.specs.Selection.{tried}
 use Rattle.sdl_system.specs.Behaviour.{ContinuousSignal, MeansContinuous}
 use Rattle.sdl_system.specs.declared.id.NodeId.{NodeId}

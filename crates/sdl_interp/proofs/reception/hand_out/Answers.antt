@@ -3,8 +3,8 @@ use Rattle.std.proofs.lemmas.Result.{err_from_is_err_and}
 use Rattle.std.proofs.lemmas.Slice.Zip.{Zip-more, either_empty_from_Zip}
 use Rattle.std.specs.Iterator.Adapters.{zip_first, zip_second}
 use Rattle.std.specs.Slice.Iter.{iter_rest}
-use Rattle.run_evaluation.specs.Value.{placed}
-use Rattle.run_evaluation.specs.Variables.{VariableList}
+use Rattle.run_record.specs.Value.{placed}
+use Rattle.run_record.specs.Variables.{VariableList}
 use Rattle.sdl_interp.proofs.ReceptionLemmas.{left_dropped, left_none, left_same, left_taken, left_wrong, sort_is}
 use Rattle.run_semantics.proofs.Goes.{goes_still}
 use Rattle.run_semantics.specs.ControlPoint.{Receiving}

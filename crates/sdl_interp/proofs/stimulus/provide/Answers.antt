@@ -1,6 +1,6 @@
 use Rattle.std.proofs.Common.{ap, Some, true}
 use Rattle.port_model.specs.declared.values.pid.Pid.TheVariants.{Of}
-use Rattle.run_evaluation.specs.Environment.{environment}
+use Rattle.run_record.specs.Environment.{environment}
 use Rattle.sdl_interp.proofs.Bodies.{found_begins}
 use Rattle.sdl_interp.proofs.First.{provides}
 use Rattle.sdl_interp.proofs.Recorded.{provided_is}

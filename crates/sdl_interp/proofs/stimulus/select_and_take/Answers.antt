@@ -1,6 +1,6 @@
 use Rattle.std.proofs.Common.{subst}
 use Rattle.std.proofs.lemmas.Result.{err_from_is_err_and}
-use Rattle.run_evaluation.specs.Knowledge.{KnowledgeValue}
+use Rattle.run_record.specs.Knowledge.{KnowledgeValue}
 use Rattle.sdl_interp.proofs.First.{fails_unselected}
 use Rattle.sdl_interp.specs.Selected.{SelectsBy, SelectsNone}
 use Rattle.sdl_interp.specs.Running.{seen}

@@ -1,6 +1,6 @@
 use Rattle.std.proofs.Common.{subst, None, Some}
 use Rattle.std.proofs.lemmas.Result.{err_from_is_err_and}
-use Rattle.run_evaluation.specs.Knowledge.{KnowledgeValue, environment_of}
+use Rattle.run_record.specs.Knowledge.{KnowledgeValue, environment_of}
 use Rattle.run_semantics.specs.Selection.{tried}
 use Rattle.sdl_interp.specs.Running.{seen}
 use Rattle.sdl_interp.proofs.Reacting.{answers_failure, found_here, waits_untried}

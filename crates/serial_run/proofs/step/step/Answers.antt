@@ -8,7 +8,7 @@ use Rattle.serial_order.specs.RunState.{world_at, living_of, is_ended}
 use Rattle.serial_run.specs.Serial.{IsOfSystem, state_of}
 use Rattle.serial_run.specs.Thinned.{IsThinned}
 use Rattle.serial_run.specs.declared.instances.Instances.{Instances}
-use Rattle.run_evaluation.specs.declared.identity.Identity.{Identity}
+use Rattle.run_record.specs.declared.evaluation.identity.Identity.{Identity}
 use Rattle.sdl_interp.specs.Instance.{EndsBy, InstanceValue, IsIdle, Moves}
 use Rattle.run_semantics.specs.World.{Living, WorldValue}
 use Rattle.serial_run.specs.ExecutionLaws.{stays}

@@ -3,7 +3,7 @@ use Rattle.std.proofs.lemmas.Option.{slice_get_read}
 use Rattle.run_order.proofs.Happenings.{may_look_there, nothing_looked}
 use Rattle.run_order.proofs.Orders.{order_is}
 use Rattle.run_order.proofs.replay.Replay.may_look.Goals as goal
-use Rattle.run_evaluation.specs.declared.identity.Identity.{Identity}
+use Rattle.run_record.specs.declared.evaluation.identity.Identity.{Identity}
 use Rattle.run_order.specs.Kept.{MayLook}
 use Rattle.run_order.specs.OrderState.{OrderState}
 

@@ -1,5 +1,5 @@
 use Rattle.std.proofs.Common.{◌≡◌, List, Option, Some, slice_get, subst}
-use Rattle.run_evaluation.specs.Knowledge.{environment_of}
+use Rattle.run_record.specs.Knowledge.{environment_of}
 use Rattle.sdl_system.specs.declared.statement.Destination.{Destination}
 use Rattle.sdl_system.specs.declared.statement.Sending.{Sending}
 use Rattle.sdl_failures.proofs.ConditionLemmas.{item_read}

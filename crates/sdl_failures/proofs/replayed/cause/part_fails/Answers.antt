@@ -1,6 +1,6 @@
 -- By the kind of the statement.
 use Rattle.std.proofs.Common.{List, subst, sym}
-use Rattle.run_evaluation.specs.Knowledge.{environment_of}
+use Rattle.run_record.specs.Knowledge.{environment_of}
 use Rattle.sdl_system.specs.declared.statement.Assignment.{Assignment}
 use Rattle.sdl_system.specs.declared.statement.Setting.{Setting}
 use Rattle.sdl_system.specs.declared.statement.Statement.{Statement}

@@ -1,7 +1,7 @@
 -- Whom the output names fails, or else the values do.
 use Rattle.std.proofs.Common.{option_map}
 use Rattle.std.specs.Prelude.{option_copied}
-use Rattle.run_evaluation.specs.Knowledge.{environment_of}
+use Rattle.run_record.specs.Knowledge.{environment_of}
 use Rattle.run_semantics.specs.Fails.{named_by}
 use Rattle.sdl_system.specs.Table.{sending, whither_of}
 use Rattle.sdl_failures.proofs.CauseLemmas.{meant-or, sent-unnamed, sent-unvalued}

@@ -1,5 +1,5 @@
 -- When the timer is due fails, or else the timer does.
-use Rattle.run_evaluation.specs.Knowledge.{environment_of}
+use Rattle.run_record.specs.Knowledge.{environment_of}
 use Rattle.run_semantics.specs.Fails.{due_by}
 use Rattle.sdl_system.specs.Table.{setting, when_due}
 use Rattle.sdl_failures.proofs.CauseLemmas.{meant-or, set-unkeyed, set-untimed}

@@ -1,6 +1,6 @@
 -- The condition at which the trials end.
 use Rattle.std.proofs.Common.{subst}
-use Rattle.run_evaluation.specs.Knowledge.{environment_of}
+use Rattle.run_record.specs.Knowledge.{environment_of}
 use Rattle.sdl_failures.specs.Fails.{StopsIn}
 use Rattle.sdl_failures.specs.declared.replayed.condition.Stopped.{Stopped}
 use Rattle.sdl_failures.proofs.replayed.condition.failing_condition.Goals as goal

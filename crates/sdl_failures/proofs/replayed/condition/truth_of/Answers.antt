@@ -1,8 +1,8 @@
 -- What a condition comes to.
 use Rattle.std.proofs.Common.{◌≡◌, List, Some, slice_get, subst}
-use Rattle.run_evaluation.specs.Knowledge.{environment_of}
-use Rattle.run_evaluation.specs.Memory.{wants_memory}
-use Rattle.run_evaluation.specs.Value.{truth_at}
+use Rattle.run_record.specs.Knowledge.{environment_of}
+use Rattle.run_record.specs.Memory.{wants_memory}
+use Rattle.run_record.specs.Value.{truth_at}
 use Rattle.sdl_system.specs.Term.{term_of}
 use Rattle.sdl_system.specs.declared.expression.Expression.{Expression}
 use Rattle.sdl_failures.proofs.CauseLemmas.{meant-as}

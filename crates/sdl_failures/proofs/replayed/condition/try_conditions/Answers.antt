@@ -1,6 +1,6 @@
 -- An enabling condition fails, or that of a continuous signal.
 use Rattle.std.proofs.lemmas.Result.{IfErr-weaker, err_from_is_err_and}
-use Rattle.run_evaluation.specs.Knowledge.{environment_of}
+use Rattle.run_record.specs.Knowledge.{environment_of}
 use Rattle.sdl_failures.proofs.ConditionLemmas.{stops_first, stops_later}
 use Rattle.sdl_failures.proofs.replayed.condition.try_conditions.Goals as goal
 

@@ -2,7 +2,7 @@
 use Rattle.std.proofs.Common.{◌≡◌, Bool, List, Ok, Some, get_or, slice_get, subst}
 use Rattle.std.proofs.lemmas.Option.{slice_get-get_or}
 use Rattle.std.proofs.lemmas.Result.{err_from_is_err_and}
-use Rattle.run_evaluation.specs.Knowledge.{environment_of}
+use Rattle.run_record.specs.Knowledge.{environment_of}
 use Rattle.sdl_system.specs.declared.state.Continuous.{Continuous}
 use Rattle.sdl_failures.proofs.ConditionLemmas.{before_more, before_none, number_at, stops_continuous}
 use Rattle.sdl_failures.specs.Fails.{ComesTo, IsFalse, continuous_of}

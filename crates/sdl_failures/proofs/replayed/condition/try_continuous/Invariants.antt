@@ -1,4 +1,4 @@
-use Rattle.run_evaluation.specs.Knowledge.{environment_of}
+use Rattle.run_record.specs.Knowledge.{environment_of}
 use Rattle.sdl_failures.specs.Fails.{EachBefore, IsFalse, continuous_of}
 use Rattle.sdl_failures.proofs.replayed.condition.try_continuous.Given as goal
 

@@ -2,7 +2,7 @@
 use Rattle.std.proofs.Common.{◌≡◌, ◌≤◌, List, Some, length, refl, slice_get, subst}
 use Rattle.std.proofs.lemmas.Option.{slice_get_read}
 use Rattle.std.proofs.lemmas.Result.{err_from_is_err_and}
-use Rattle.run_evaluation.specs.Knowledge.{environment_of}
+use Rattle.run_record.specs.Knowledge.{environment_of}
 use Rattle.sdl_system.specs.declared.state.Enabling.{Enabling}
 use Rattle.sdl_failures.proofs.ConditionLemmas.{before_all, before_more, before_none, has_truth, number_at, stops_enabling}
 use Rattle.sdl_failures.specs.Fails.{HasTruth, enabling_of}

@@ -1,7 +1,7 @@
 -- An instance that nobody created, or that another one created.
 use Rattle.std.proofs.Common.{◌≡◌, ◌∙◌, List, Option, IfSome, Some, ap, slice_get, subst, sym}
 use Rattle.port_model.specs.declared.values.value.Value.{Value}
-use Rattle.run_evaluation.specs.Variables.{VariableList}
+use Rattle.run_record.specs.Variables.{VariableList}
 use Rattle.sdl_system.specs.declared.id.ProcessId.{ProcessId}
 use Rattle.sdl_system.specs.declared.process.Process.{Process}
 use Rattle.sdl_failures.proofs.CreateLemmas.{begins-first, begins-made, creates_as}

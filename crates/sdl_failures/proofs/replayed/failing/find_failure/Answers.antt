@@ -1,6 +1,6 @@
 -- The place, by all events of the record.
 use Rattle.std.proofs.Common.{◌∙◌, Option, IfSome, ap, slice_get, subst, sym}
-use Rattle.run_evaluation.specs.Variables.{VariableList}
+use Rattle.run_record.specs.Variables.{VariableList}
 use Rattle.sdl_system.specs.declared.id.ProcessId.{ProcessId}
 use Rattle.sdl_failures.proofs.FollowLemmas.{stops_there}
 use Rattle.sdl_failures.specs.Replay.{StopsAsOf}

@@ -3,7 +3,7 @@ use Rattle.std.proofs.Common.{◌≡◌, ◌∙◌, ◌∷◌, Option, ap, refl,
 use Rattle.std.proofs.lemmas.Slice.Zip.{Zip-more}
 use Rattle.std.specs.Iterator.Adapters.{zip_first, zip_second}
 use Rattle.std.specs.Slice.Iter.{iter_rest}
-use Rattle.run_evaluation.specs.Value.{placed}
+use Rattle.run_record.specs.Value.{placed}
 use Rattle.run_semantics.specs.Reception.{assigned}
 use Rattle.sdl_system.specs.declared.id.VariableId.{VariableId}
 use Rattle.sdl_system.specs.declared.sort.Sort.{Sort}

@@ -1,7 +1,7 @@
 use Rattle.std.proofs.Common.{◌≡◌}
 use Rattle.std.specs.Iterator.Adapters.{zip_first, zip_second}
 use Rattle.std.specs.Slice.Iter.{iter_rest}
-use Rattle.run_evaluation.specs.declared.store.Store.{Store}
+use Rattle.run_record.specs.declared.evaluation.store.Store.{Store}
 use Rattle.sdl_failures.specs.Received.{received}
 use Rattle.sdl_failures.proofs.replayed.reception.misfit_of.Given as goal
 

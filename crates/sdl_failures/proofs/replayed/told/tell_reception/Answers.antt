@@ -1,7 +1,7 @@
 -- The values of a signal go to the variables of its input.
 use Rattle.std.proofs.Common.{◌∙◌, ℕ, List, Option, ap, sym}
 use Rattle.port_model.specs.declared.values.pid.Pid.{Pid}
-use Rattle.run_evaluation.specs.declared.store.Store.{Store}
+use Rattle.run_record.specs.declared.evaluation.store.Store.{Store}
 use Rattle.run_record.specs.Entry.{got_of}
 use Rattle.sdl_system.specs.declared.id.VariableId.{VariableId}
 use Rattle.sdl_failures.proofs.GotLemmas.{name-got, values-got}

@@ -1,7 +1,7 @@
 -- What the store takes to know.
 use Rattle.std.proofs.Common.{◌∙◌, ℕ, Some, ap, sym}
 use Rattle.port_model.specs.declared.values.pid.Pid.{Pid}
-use Rattle.run_evaluation.specs.declared.store.Store.{Store}
+use Rattle.run_record.specs.declared.evaluation.store.Store.{Store}
 use Rattle.run_record.specs.Entry.{event_of}
 use Rattle.run_record.specs.declared.entry.Entry.{Entry}
 use Rattle.sdl_failures.specs.Told.{store_after}

@@ -1,7 +1,7 @@
 use Rattle.std.proofs.Common.{◌≡◌, ◌≤◌, ◌∙◌, Some, ap, arith, slice_get, subst, sym}
 use Rattle.port_model.specs.Port.{PortState}
-use Rattle.run_evaluation.specs.Environment.{initial_store}
-use Rattle.run_evaluation.specs.Variables.{VariableList}
+use Rattle.run_record.specs.Environment.{initial_store}
+use Rattle.run_record.specs.Variables.{VariableList}
 use Rattle.sdl_interp.proofs.Instances.{holds_ok, variables_mean}
 use Rattle.run_record.specs.Record.{RecordValue}
 use Rattle.run_semantics.proofs.Histories.{run_begins}

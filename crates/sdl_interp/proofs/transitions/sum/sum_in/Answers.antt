@@ -2,8 +2,8 @@ use Rattle.std.proofs.Common.{◌≡◌, ◌∙◌, Some, ap, refl, rules, sym, 
 use Rattle.std.proofs.lemmas.Int.{to_z-of_z}
 use Rattle.std.proofs.lemmas.Option.{IfSome_then}
 use Rattle.port_model.specs.declared.values.value.Value.TheVariants.{Int}
-use Rattle.run_evaluation.specs.Environment.{environment}
-use Rattle.run_evaluation.specs.Value.{at_place, given}
+use Rattle.run_record.specs.Environment.{environment}
+use Rattle.run_record.specs.Value.{at_place, given}
 use Rattle.sdl_interp.proofs.Sums.{pair_value}
 use Rattle.sdl_interp.proofs.transitions.sum.sum_in.Goals as goal
 use Rattle.sdl_system.specs.Operation.{applied}

@@ -1,7 +1,7 @@
 -- One instance more is added.
 use Rattle.std.proofs.Common.{◌≡◌, ◌∙◌, ◌+◌, ◌-◌, ◌++◌, ◌∷◌, [], ap, length, rules}
 use Rattle.port_model.specs.declared.values.pid.Pid.TheVariants.{Null}
-use Rattle.run_evaluation.specs.declared.identity.Identity.{Identity}
+use Rattle.run_record.specs.declared.evaluation.identity.Identity.{Identity}
 use Rattle.settle_checks.proofs.CreatedLemmas.{instance_more}
 use Rattle.settle_meaning.specs.Identities.{first_of}
 use Rattle.settle_checks.proofs.summing.made.add_instances.Goals as goal

@@ -1,6 +1,6 @@
 -- The values of the create at which it stands.
 use Rattle.std.proofs.Common.{◌∙◌, ◌∷◌, Some, refl}
-use Rattle.run_evaluation.specs.Knowledge.{KnowledgeValue}
+use Rattle.run_record.specs.Knowledge.{KnowledgeValue}
 use Rattle.run_record.specs.Event as event
 use Rattle.run_semantics.specs.Fails.{parameters_of}
 use Rattle.sdl_failures.specs.declared.replayed.spot.Spot.TheVariants.{At}

@@ -1,7 +1,7 @@
 -- By the table of the state.
 use Rattle.std.proofs.Common.{◌⊎◌, IfSome, subst, sym}
 use Rattle.std.proofs.lemmas.Option.{IfSome_then}
-use Rattle.run_evaluation.specs.Knowledge.{KnowledgeValue, environment_of}
+use Rattle.run_record.specs.Knowledge.{KnowledgeValue, environment_of}
 use Rattle.sdl_failures.specs.Fails.{ContinuousFails, EnablingFails}
 use Rattle.sdl_failures.proofs.replayed.replay.Replay.failing_condition.Goals as goal
 

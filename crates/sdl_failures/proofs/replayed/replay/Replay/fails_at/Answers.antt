@@ -1,6 +1,6 @@
 -- It is one too many, or fails by what it evaluates.
 use Rattle.std.proofs.Common.{inl, inr, subst}
-use Rattle.run_evaluation.specs.Knowledge.{KnowledgeValue, environment_of}
+use Rattle.run_record.specs.Knowledge.{KnowledgeValue, environment_of}
 use Rattle.sdl_failures.specs.Fails.{PartFails}
 use Rattle.sdl_failures.proofs.replayed.replay.Replay.fails_at.Goals as goal
 

@@ -1,8 +1,8 @@
 -- It begins with all events.
 use Rattle.std.proofs.Common.{None, ap, refl, sym}
 use Rattle.port_model.specs.Port.{empty_port}
-use Rattle.run_evaluation.specs.Environment.{initial_store}
-use Rattle.run_evaluation.specs.declared.identity.Identity.{Identity}
+use Rattle.run_record.specs.Environment.{initial_store}
+use Rattle.run_record.specs.declared.evaluation.identity.Identity.{Identity}
 use Rattle.view_timeline.specs.Cursor.{CursorValue}
 use Rattle.sdl_failures.proofs.CameLemmas.{came_as}
 use Rattle.sdl_failures.specs.Came.{begins}

@@ -1,7 +1,7 @@
 -- The way of the value of the question.
 use Rattle.std.proofs.Common.{◌≡◌, Ok, subst, sym}
-use Rattle.run_evaluation.specs.Knowledge.{KnowledgeValue, environment_of}
-use Rattle.run_evaluation.specs.Value.{value_of}
+use Rattle.run_record.specs.Knowledge.{KnowledgeValue, environment_of}
+use Rattle.run_record.specs.Value.{value_of}
 use Rattle.sdl_system.specs.Term.{term_of}
 use Rattle.sdl_failures.proofs.replayed.replay.Replay.way_of.Goals as goal
 

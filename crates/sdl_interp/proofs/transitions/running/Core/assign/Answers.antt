@@ -1,6 +1,6 @@
 use Rattle.std.proofs.Common.{ap, inl, inr, refl}
 use Rattle.std.proofs.lemmas.Result.{err_from_is_err_and}
-use Rattle.run_evaluation.specs.Value as evaluated
+use Rattle.run_record.specs.Value as evaluated
 use Rattle.run_record.specs.Event as event
 use Rattle.run_semantics.specs.Reception.{assigned}
 use Rattle.sdl_interp.proofs.Deeds.{goes_assigned}

@@ -1,8 +1,8 @@
 use Rattle.std.proofs.Common.{◌∙◌, ap, inl, inr, map, sym, ℕ}
 use Rattle.std.proofs.lemmas.Result.{err_from_is_err_and}
 use Rattle.port_model.specs.declared.values.pid.Pid.{Pid}
-use Rattle.run_evaluation.specs.Value.{values_at}
-use Rattle.run_evaluation.specs.declared.store.Store.{Store}
+use Rattle.run_record.specs.Value.{values_at}
+use Rattle.run_record.specs.declared.evaluation.store.Store.{Store}
 use Rattle.run_record.specs.Event as event
 use Rattle.run_semantics.specs.Fails.{parameters_of}
 use Rattle.run_semantics.specs.Leads.{created, offspring_of}

@@ -1,7 +1,7 @@
 use Rattle.std.proofs.Common.{◌∙◌, ap, inl, inr, map}
 use Rattle.std.proofs.lemmas.Result.{err_from_is_err_and}
 use Rattle.port_model.specs.Ends.{OwnerState}
-use Rattle.run_evaluation.specs.Value.{key_at}
+use Rattle.run_record.specs.Value.{key_at}
 use Rattle.run_record.specs.Event as event
 use Rattle.run_semantics.specs.Goes.{with_event}
 use Rattle.sdl_interp.proofs.Deeds.{goes_reset}

@@ -2,7 +2,7 @@ use Rattle.std.proofs.Common.{◌≡◌, ◌≤◌, ◌<◌, ◌∙◌, ◌∷�
 use Rattle.std.proofs.lemmas.Result.{err_from_is_err_and}
 use Rattle.std.specs.Option.{option_copied, option_map}
 use Rattle.sdl_interp.proofs.Meanings.{by_known, sent_ok, unnamed, unsent}
-use Rattle.run_evaluation.specs.Value.{values_at}
+use Rattle.run_record.specs.Value.{values_at}
 use Rattle.run_semantics.specs.Fails.{named_by}
 use Rattle.sdl_interp.proofs.Outputs.{amid_sent, goes_out}
 use Rattle.sdl_interp.specs.Running.{seen}

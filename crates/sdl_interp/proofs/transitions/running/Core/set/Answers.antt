@@ -3,7 +3,7 @@ use Rattle.std.proofs.lemmas.Result.{err_from_is_err_and}
 use Rattle.port_model.specs.Ends.{OwnerState}
 use Rattle.port_model.specs.declared.inbox.entry.Fuse.{Fuse}
 use Rattle.port_model.specs.declared.values.timer_key.TimerKey.{TimerKey}
-use Rattle.run_evaluation.specs.Value.{key_at}
+use Rattle.run_record.specs.Value.{key_at}
 use Rattle.run_record.specs.Event as event
 use Rattle.run_record.specs.Record.{noted}
 use Rattle.run_semantics.specs.Effect.{Arm}

@@ -1,6 +1,6 @@
 use Rattle.std.proofs.Common.{◌∙◌, ap}
 use Rattle.std.proofs.lemmas.Result.{err_from_is_err_and}
-use Rattle.run_evaluation.specs.declared.store.Store.{Store}
+use Rattle.run_record.specs.declared.evaluation.store.Store.{Store}
 use Rattle.sdl_interp.proofs.Heads.{plain_else}
 use Rattle.sdl_interp.proofs.Staying.{going_counted, going_stored, same_counted, same_counted_on, same_stored, value_counted, work_same, work_stored}
 use Rattle.sdl_interp.proofs.Visits.{visits_acted, visits_acted_wrong, visits_decision, visits_uncounted, visits_undecided}

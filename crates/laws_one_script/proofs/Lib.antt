@@ -1,6 +1,0 @@
-mod Faults
-mod Meanings
-mod Parts
-mod Refusals
-mod Spellings
-mod Texts

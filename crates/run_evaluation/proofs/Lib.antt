@@ -1,3 +1,0 @@
-mod ChainLemmas
-mod LawLemmas
-mod ListLemmas

@@ -1,5 +1,0 @@
-use Rattle.run_evaluation.proofs.LawLemmas.{fails_by_itself}
-use Rattle.run_evaluation.proofs.laws.fails_by_itself.Goals as goal
-
-pub returns : goal.returns
-returns c = fails_by_itself

@@ -1,5 +1,0 @@
-use Rattle.run_evaluation.proofs.LawLemmas.{has_sort_of_place}
-use Rattle.run_evaluation.proofs.laws.has_sort_of_place.Goals as goal
-
-pub returns : goal.returns
-returns c = has_sort_of_place c.takes_sort.ensures

@@ -1,5 +1,0 @@
-use Rattle.run_evaluation.proofs.LawLemmas.{reads_what_is_known}
-use Rattle.run_evaluation.proofs.laws.reads_what_is_known.Goals as goal
-
-pub returns : goal.returns
-returns c = reads_what_is_known
