@@ -3,12 +3,10 @@
 //!
 //! A cursor stands before the words that are not read yet. A production is a function that reads it, or leaves the
 //! cursor where no reading goes on and tells the fault. `specs/Reading.antt` has the ways in which readings are put
-//! together. Each function here gives just what its definition there reads, unless memory fails.
+//! together. Here stand the productions that many others have, too: names, sorts, ends, signals and expressions.
 //!
-//! The productions of SDL/PR that stand in many others: names, sorts, ends, signals and expressions.
-//!
-//! Each gives just what its definition in `specs/` reads, unless memory fails; the laws in `proofs/` say that these
-//! definitions read what the grammar spells and nothing else.
+//! Each function gives just what its definition in `specs/` reads, unless memory fails; the laws in `proofs/` say that
+//! these definitions read what the grammar spells and nothing else.
 #![tactic(auto)]
 
 mod cursor;

@@ -4,7 +4,8 @@
 //! an entry of 16 bytes, and one more if it begins at another time than the one before. It has no memory apart from its
 //! record. The values of all events stand in one table, in their order.
 //!
-//! A record is read from its first event on, each an `Entry` with its values.
+//! A record is read from its first event on, each an `Entry` with its values. `evaluation` has what the expressions of a
+//! transition give, whose failures a record names.
 #![tactic(auto)]
 
 mod entry;

@@ -4,10 +4,7 @@
 //! whatever their sort, and a value takes the sort of the place that it goes to when it gets there. What an operation
 //! gives is defined for all values, and each function here is exactly its definition.
 //!
-//! That several threads may read a system at once.
-//!
-//! This crate has no code. A crate that lends a system to threads owes a proof that they may read it at once, and
-//! cites it from here.
+//! A crate that lends a system to threads owes a proof that they may read it at once, and cites it from here.
 #![tactic(auto)]
 
 mod answer;
