@@ -8,7 +8,7 @@ pub mod Lists
 pub mod Order
 pub mod Ordered
 pub mod Passings
-pub mod Placed
+pub mod PlaceLemmas
 pub mod Ports
 pub mod Resets
 pub mod Searches

@@ -29,7 +29,7 @@ use Rattle.port_model.specs.Timers.{is_signal_of, without_signal}
 use Rattle.port_model.specs.Wanted.{is_wanted, IsUnwanted, IsWanted}
 use Rattle.port_model.specs.Selection.{class_of}
 use Rattle.port_model.proofs.Lists.{any_with, middle, none_left, others_left}
-use Rattle.port_model.proofs.Placed.{named_is, same_name}
+use Rattle.port_model.proofs.PlaceLemmas.{named_is, same_name}
 
 -- ---- lists of entries: what holds of what is made of each, and of the parts of a list
 all_of_map : {X Y : Type 0} (f : Y → X) (P : X → Type 0) (ys : List Y) → All P (map f ys) → All (λ y. P (f y)) ys

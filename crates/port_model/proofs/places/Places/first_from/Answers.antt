@@ -1,6 +1,6 @@
 use Rattle.std.proofs.Common.{subst}
 use Rattle.port_model.specs.Places.{IsFirstFrom, NoneFrom, PlacesValue}
-use Rattle.port_model.proofs.Placed.{first_from, none_from}
+use Rattle.port_model.proofs.PlaceLemmas.{first_from, none_from}
 use Rattle.port_model.proofs.places.Places.first_from.Goals as goal
 
 pub returns-in-None-clause-first : goal.returns-in-None-clause-first

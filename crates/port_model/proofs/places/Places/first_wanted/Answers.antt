@@ -1,5 +1,5 @@
 use Rattle.std.proofs.Common.{◌+◌, subst, sym, arith}
-use Rattle.port_model.proofs.Placed.{all_looked_at, finds_name, names_fit, passes_name, IsFirstBelow}
+use Rattle.port_model.proofs.PlaceLemmas.{all_looked_at, finds_name, names_fit, passes_name, IsFirstBelow}
 use Rattle.port_model.proofs.places.Places.first_wanted.Goals as goal
 use Rattle.port_model.proofs.places.Places.first_wanted.Goals.{else-takes, then-takes}
 

@@ -1,5 +1,5 @@
 use Rattle.std.proofs.Common.{◌-◌, ◌^◌}
-use Rattle.port_model.proofs.Placed.{IsFirstBelow}
+use Rattle.port_model.proofs.PlaceLemmas.{IsFirstBelow}
 use Rattle.port_model.proofs.places.Places.first_wanted.Given as goal
 
 abbrev pub invariant-loop-found : goal.invariant-loop-found

@@ -1,7 +1,7 @@
 use Rattle.std.proofs.Common.{sym, arith}
 use Rattle.std.proofs.lemmas.Map.Views.{All-remove_key}
 use Rattle.port_model.specs.Places.{IsNamed}
-use Rattle.port_model.proofs.Placed.{named_gone, timer_gone}
+use Rattle.port_model.proofs.PlaceLemmas.{named_gone, timer_gone}
 use Rattle.port_model.proofs.places.Places.forget.Goals as goal
 
 pub invariant_of-self : goal.invariant_of-self

@@ -5,7 +5,7 @@ use Rattle.std.specs.BTreeMap.{is_at}
 use Rattle.std.proofs.lemmas.Map.Views.{All-insert_key, All-remove_key}
 use Rattle.port_model.specs.Places.{named_order, place_of, IsNamed, PlacesValue}
 use Rattle.port_model.specs.declared.places.NamedPlace.{NamedPlace}
-use Rattle.port_model.proofs.Placed.{name_again, named_more}
+use Rattle.port_model.proofs.PlaceLemmas.{name_again, named_more}
 use Rattle.port_model.proofs.places.Places.note.Goals as goal
 
 pub invariant_of-self-2 : goal.invariant_of-self-2

@@ -1,5 +1,5 @@
 use Rattle.std.proofs.Common.{sym, ap, ◌∙◌}
-use Rattle.port_model.proofs.Placed.{absent_timer, timer_more}
+use Rattle.port_model.proofs.PlaceLemmas.{absent_timer, timer_more}
 use Rattle.port_model.specs.declared.got.Got.TheVariants.{Timer}
 use Rattle.port_model.proofs.places.Places.note_timer.Goals as goal
 
