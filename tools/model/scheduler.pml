@@ -2,8 +2,8 @@
 
    A step of the model is one access to a word that threads share, or one section under a lock, with the thread's own
    work before or after it. Each step names the function whose step it is, by file and name: mark.rt, places.rt and
-   hall.rt are of threads_instance (queue); signs.rt, tables.rt, making.rt and own.rt of threads_shared; worker.rt,
-   job.rt, director.rt, crew.rt and start.rt of threads_workers.
+   injector.rt are of threads_instance (queue); signs.rt, tables.rt, making.rt and own.rt of threads_shared; worker.rt,
+   job.rt, driver.rt, crew.rt and start.rt of threads_workers.
 
    Each file is named after the one whose steps it has, so far as there is one.
 
@@ -67,9 +67,9 @@
 
 #include "shared.pml"
 #include "waking.pml"
-#include "hall.pml"
+#include "injector.pml"
 #include "mark.pml"
 #include "checks.pml"
 #include "acts.pml"
 #include "worker.pml"
-#include "director.pml"
+#include "driver.pml"

@@ -6,7 +6,7 @@
 #define READY 2
 #define AGAIN 3
 
-#define DIRECTOR 0
+#define DRIVER 0
 #define NOBODY 255
 
 /* A place: its mark, its lock, and whether somebody is there. Numbers are from 1. */
@@ -43,11 +43,11 @@ bool saving[INSTANCES + 1];
 byte fuse[INSTANCES + 1];
 byte clock;
 
-/* hall.rt: the common queue, who sleeps (a bit for each worker), the crew, and whether the run is over. */
-chan hall = [INSTANCES] of { byte };
+/* injector.rt: the common queue, who sleeps (a bit for each worker), the crew, and whether the run is over. */
+chan injector = [INSTANCES] of { byte };
 byte asleep;
 byte crew = WORKERS;
-bool hall_closed;
+bool injector_closed;
 
 /* local.rt: the local queue of each worker. Only it puts numbers in; others may take them out. */
 chan locals[WORKERS] = [INSTANCES] of { byte };
@@ -65,7 +65,7 @@ bool signs_failed;
 byte sum;
 #endif
 
-/* The token of each thread's parker: the director's, then those of the workers. */
+/* The token of each thread's parker: the driver's, then those of the workers. */
 bool token[WORKERS + 1];
 byte done;
 
@@ -131,7 +131,7 @@ inline be_ticket(y) {
 /* A number goes into a queue, or into a hand: it is in no other. */
 inline put_number(into, y) {
     assert(ticket[y]);
-    assert(!(hall ?? [eval(y)]) && !HAS_NUMBER(0, y));
+    assert(!(injector ?? [eval(y)]) && !HAS_NUMBER(0, y));
 #if WORKERS > 1
     assert(!HAS_NUMBER(1, y));
 #endif

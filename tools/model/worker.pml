@@ -6,7 +6,7 @@ proctype worker(byte me) {
     byte to_wake, then_wake;    /* Whom it has sent something, and is to wake. */
     byte other = NOBODY;        /* Who is to be unparked. */
     byte count, taken, kept, moved;
-    bool worked;                /* Whether it has made a job since it asked the hall. */
+    bool worked;                /* Whether it has made a job since it asked the injector. */
     bool may_relieve;           /* Whether it has made one since it relieved another one. */
     bool sets, creates, stops_then;
 #if AT_ONCE
@@ -52,10 +52,10 @@ round:
     :: seekers == 0 -> goto gets
     fi;
 gives:
-    /* worker.rt: share. LocalQueue::put_all, under its lock. LocalQueue::share, under the hall's lock and its own. */
+    /* worker.rt: share. LocalQueue::put_all, under its lock. LocalQueue::share, under the injector's lock and its own. */
     atomic { move_all(hand[me], locals[me]) };
     atomic {
-        hall_share(me, other);
+        injector_share(me, other);
         set_signs();
         if
         :: other == NOBODY -> goto gets
@@ -69,22 +69,22 @@ gets:
     /* worker.rt: exchange, after 61 jobs: that is here after any job, or not. */
 #ifdef BUG_EXCHANGE_ASLEEP
     /* It counts jobs from before it slept. So one that woke by itself exchanges while it is noted as asleep. */
-    :: nempty(hall) -> goto exchanges
+    :: nempty(injector) -> goto exchanges
 #else
-    :: atomic { worked && nempty(hall) -> worked = false } -> goto exchanges
+    :: atomic { worked && nempty(injector) -> worked = false } -> goto exchanges
 #endif
     /* relief.rt: relieve_others, after 61 jobs, of those that haven't come to their queues: that is here after any job, or
-       not, of any other worker. Tables::relieve, under the hall's lock and that queue's. */
+       not, of any other worker. Tables::relieve, under the injector's lock and that queue's. */
 #if WORKERS > 1
-    :: atomic { may_relieve && me != 0 && nempty(locals[0]) -> may_relieve = false; hall_relieve(0, other) } -> goto relieves
-    :: atomic { may_relieve && me != 1 && nempty(locals[1]) -> may_relieve = false; hall_relieve(1, other) } -> goto relieves
+    :: atomic { may_relieve && me != 0 && nempty(locals[0]) -> may_relieve = false; injector_relieve(0, other) } -> goto relieves
+    :: atomic { may_relieve && me != 1 && nempty(locals[1]) -> may_relieve = false; injector_relieve(1, other) } -> goto relieves
 #endif
 #if WORKERS > 2
-    :: atomic { may_relieve && me != 2 && nempty(locals[2]) -> may_relieve = false; hall_relieve(2, other) } -> goto relieves
+    :: atomic { may_relieve && me != 2 && nempty(locals[2]) -> may_relieve = false; injector_relieve(2, other) } -> goto relieves
 #endif
 #ifdef BUG_RELIEF_TAKES_JOB
     /* It takes the number of a job, too. */
-    :: atomic { at_job[1 - me] > 0 -> put_number(hall, at_job[1 - me]); set_queued() } -> goto gets
+    :: atomic { at_job[1 - me] > 0 -> put_number(injector, at_job[1 - me]); set_queued() } -> goto gets
 #endif
 #ifdef BUG_RELIEF_TO_A_WORKER
     /* It puts the numbers into another worker's queue, which may sleep. */
@@ -103,7 +103,7 @@ gets:
         note_job(number)
        } -> goto begins
 #ifdef BUG_SLEEPS_WITH_NUMBERS
-    /* It asks the hall for its turn though its local queue has a number. */
+    /* It asks the injector for its turn though its local queue has a number. */
 #define HAS_NONE empty(hand[me])
 #else
 #define HAS_NONE (empty(hand[me]) && empty(locals[me]))
@@ -115,13 +115,13 @@ gets:
 #define HAS_TOLD HAS_NONE
 #endif
     /* signs.rt: Signs::seek. It looks for a while whether a number is queued, whether the run is over, and whether anybody
-       steps. Whatever it saw, it asks the hall then. */
+       steps. Whatever it saw, it asks the injector then. */
     :: atomic { HAS_TOLD -> seekers++ } -> goto seeks
     fi;
 exchanges:
-    /* LocalQueue::put_all, under its lock. LocalQueue::exchange, under the hall's lock and its own. */
+    /* LocalQueue::put_all, under its lock. LocalQueue::exchange, under the injector's lock and its own. */
     atomic { move_all(hand[me], locals[me]) };
-    atomic { hall_exchange(me); set_queued() };
+    atomic { injector_exchange(me); set_queued() };
     goto gets;
 relieves:
     if
@@ -159,35 +159,35 @@ asks:
     :: true
     fi;
 #endif
-    /* worker.rt: next_turn. LocalQueue::turn: Hall::turn, and the words of the hall, under its lock and the queue's. */
+    /* worker.rt: next_turn. LocalQueue::turn: Injector::turn, and the words of the injector, under its lock and the queue's. */
     atomic {
         worked = false;
 #if SPURIOUS
         asleep = asleep & ~(1 << me);
 #else
-        /* Hall::rouse finds nobody: whoever takes a worker out of those that sleep unparks it. */
+        /* Injector::rouse finds nobody: whoever takes a worker out of those that sleep unparks it. */
         assert(!(asleep & (1 << me)));
 #endif
         if
-        :: hall_closed ->
+        :: injector_closed ->
             take_sleeper(other);
             set_signs();
             if
             :: other == NOBODY -> goto gone
             :: else -> goto told_end
             fi
-        :: !hall_closed && empty(hall) ->
+        :: !injector_closed && empty(injector) ->
 trusts:     asleep = asleep | (1 << me);
             set_signs();
             if
             :: COUNT_OF(asleep) == crew -> goto rests
             :: else -> goto parks
             fi
-        :: !hall_closed && nempty(hall) ->
-            hall_take(me);
+        :: !injector_closed && nempty(injector) ->
+            injector_take(me);
             if
-            :: nempty(hall) -> take_sleeper(other)
-            :: empty(hall)
+            :: nempty(injector) -> take_sleeper(other)
+            :: empty(injector)
             fi;
             set_signs();
             if
@@ -202,7 +202,7 @@ trusts:     asleep = asleep | (1 << me);
 rests:
     /* All of the crew sleep. */
 #ifndef BUG_REST_UNTOLD
-    give_token(DIRECTOR);
+    give_token(DRIVER);
 #endif
 parks:
     park(me + 1);
@@ -219,7 +219,7 @@ ends:
 #ifndef BUG_END_UNTOLD
     close(other);
 #endif
-    give_token(DIRECTOR);
+    give_token(DRIVER);
     goto gone;
 
 told_end:

@@ -15,10 +15,10 @@ use settle_run::{Settled, settle};
 use std::alloc::Global;
 use std::sync::Wait;
 use std::thread::Threads;
-use threads_instance::Places;
+use threads_instance::Slots;
 use threads_ports::{Entries, NewPorts, NumberSeat, Numbers, Ports, Run, Seat, Table};
 use threads_shared::{Common, Environment, Own, Shared, Tables};
-use threads_workers::{Director, Gate, begin, direct};
+use threads_workers::{Driver, Gate, begin, drive};
 
 /// The plan of a run: the lines of its script, how many workers it has, its limit of transitions, and whether its
 /// course is kept, so that the order of all can be told.
@@ -82,7 +82,7 @@ fn run_common<J: Run + Send + Sync, R: Threads + Wait + Copy + Send + Sync, G: G
         IfSome settled.course (HasRows (length settled.report.records.items))) }
 {
     let alloc = plan.alloc;
-    let mut places = Places::new(alloc)?;
+    let mut slots = Slots::new(alloc)?;
     let tables = Tables::new(alloc, system, plan.workers, plan.limit)?;
     let shared = Shared {
         alloc,
@@ -90,11 +90,11 @@ fn run_common<J: Run + Send + Sync, R: Threads + Wait + Copy + Send + Sync, G: G
         system,
         common,
         tables: &tables,
-        places: &places,
+        slots: &slots,
         keeps_course: plan.keeps_course,
     };
     let settled = run_shared(&shared, plan, seat, gate);
-    tables.end_with(&mut places);
+    tables.end_with(&mut slots);
     settled
 }
 
@@ -115,10 +115,10 @@ fn run_shared<J: Run + Send + Sync, R: Threads + Wait + Copy + Send + Sync, G: G
     let NewClock { ticker, mut reader } = clock(plan.alloc)?;
     let environment = Environment::new(plan.alloc, plan.lines);
     begin(shared, &mut seat)?;
-    let director = Director::new(environment, ticker);
-    let director = direct(shared, director, &mut reader, &mut seat, plan.workers, gate)?;
+    let driver = Driver::new(environment, ticker);
+    let driver = drive(shared, driver, &mut reader, &mut seat, plan.workers, gate)?;
     gate.reached(Stage::Joined);
-    let settled = settle_joined(shared, plan, reader, seat, director)?;
+    let settled = settle_joined(shared, plan, reader, seat, driver)?;
     gate.reached(Stage::Settled);
     Ok(settled)
 }
@@ -129,9 +129,9 @@ fn settle_joined<J: Run, R: Threads + Wait + Copy + Sync>(
     plan: Plan<'_>,
     reader: Reader,
     seat: NumberSeat<J>,
-    director: Director<'_, J>,
+    driver: Driver<'_, J>,
 ) -> Result<Settled, RunError>
-    requires { director.environment.lines ≡ plan.lines.now }
+    requires { driver.environment.lines ≡ plan.lines.now }
     ensures settled { IfOk result (λ settled.
         IsSettledReport shared.now.system.now plan.entry.lines.now plan.entry.limit settled.report) }
     ensures rows { IfOk result (λ settled.
@@ -140,11 +140,11 @@ fn settle_joined<J: Run, R: Threads + Wait + Copy + Sync>(
     if shared.tables.signs.has_failed() {
         return Err(RunError::Memory);
     }
-    let Director {
+    let Driver {
         environment,
         time,
         ..
-    } = director;
+    } = driver;
     let processes = shared.system.processes().len();
     let mut own = Own::new(plan.alloc, reader, seat, processes, 1, plan.keeps_course)?;
     let settled = settle(

@@ -10,7 +10,7 @@ use std::sync::Wait;
 use threads_ports::Run;
 use threads_shared::{Environment, Own, Shared};
 
-/// The instances of a run on threads, each in its place, once the threads are joined: what they shared, what the calling
+/// The instances of a run on threads, each in its slot, once the threads are joined: what they shared, what the calling
 /// thread has for itself, the environment, and the greatest number that was given.
 #[derive(Drop)]
 pub struct Rest<'w, 'l, 's, 'p, 'e, J: Run, R: Wait + Copy> {

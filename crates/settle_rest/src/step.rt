@@ -1,4 +1,4 @@
-//! A step of an instance that is in its place.
+//! A step of an instance that is in its slot.
 
 ghost use Rattle.std.specs.Prelude.{◌≡◌, ◌⊎◌, ◌+◌, ◌<◌, ◌≤◌, ℕ, Contains, IfOk, IsTrue, OnOk, false, length};
 ghost use Rattle.serial_sweeps.specs.Sweeps.{IsNoFuseBefore};
@@ -19,8 +19,8 @@ use threads_ports::Run;
 use threads_shared::{Own, Seated, Shared, StepRuntime, note_stepped};
 
 impl<'w, 'l, 's, 'p, 'e, J: Run, R: Wait + Copy> Rest<'w, 'l, 's, 'p, 'e, J, R> {
-    /// One step of the instance that is in the place of this number, and all that comes after it. If none is there, nobody
-    /// of this number has anything to do.
+    /// One step of the instance that is in the slot of this number, and all that comes after it. If none is there,
+    /// nobody of this number has anything to do.
     pub fn step_at(&mut self, agenda: &mut Agenda, number: u32) -> Result<Made, RunError>
         requires fits { AreNumbers agenda.old.ready }
         requires ready { Contains agenda.old.ready number }
@@ -33,12 +33,12 @@ impl<'w, 'l, 's, 'p, 'e, J: Run, R: Wait + Copy> Rest<'w, 'l, 's, 'p, 'e, J, R> 
         ensures given { self.old.given ≤ self.new.given }
     {
         let shared = self.shared;
-        let Some(place) = shared.places.of(number) else {
+        let Some(slot) = shared.slots.of(number) else {
             agenda.ready.rest(number);
             return Ok(Made::Nothing);
         };
         // The threads are joined, so the lock is free.
-        let mut guard = place.lock_joined(shared.rt);
+        let mut guard = slot.lock_joined(shared.rt);
         let Some(seated) = guard.as_mut() else {
             agenda.ready.rest(number);
             return Ok(Made::Nothing);
@@ -46,8 +46,8 @@ impl<'w, 'l, 's, 'p, 'e, J: Run, R: Wait + Copy> Rest<'w, 'l, 's, 'p, 'e, J, R> 
         self.step_of(agenda, number, seated)
     }
 
-    /// One step of an instance: its fuses wait, whom it has sent something or created is woken, and who has ended lives no
-    /// more. Where the course of the run is kept, the step is noted there.
+    /// One step of an instance: its fuses wait, whom it has sent something or created is woken, and who has ended lives
+    /// no more. Where the course of the run is kept, the step is noted there.
     fn step_of(
         &mut self,
         agenda: &mut Agenda,
@@ -88,8 +88,9 @@ impl<'w, 'l, 's, 'p, 'e, J: Run, R: Wait + Copy> Rest<'w, 'l, 's, 'p, 'e, J, R> 
         Ok(Made::Transition)
     }
 
-    /// One step of an instance at this time. If it is recorded, it is noted where the course of the run is kept. The fuses
-    /// of its timers and the tickets of whom it has created are in this thread's hand then, and who has ended lives no more.
+    /// One step of an instance at this time. If it is recorded, it is noted where the course of the run is kept. The
+    /// fuses of its timers and the tickets of whom it has created are in this thread's hand then, and who has ended
+    /// lives no more.
     fn step_noted(&mut self, seated: &mut Seated<'s, 'p, J, R>, time: Ticks) -> Stepped
         ensures off { self.old.shared.now.keeps_course ≡ false → seated.new.value.course ≡ seated.old.value.course }
         ensures noted { IsTrue self.old.shared.now.keeps_course
@@ -114,7 +115,7 @@ impl<'w, 'l, 's, 'p, 'e, J: Run, R: Wait + Copy> Rest<'w, 'l, 's, 'p, 'e, J, R> 
     {
         while let Some(ticket) = self.own.hand.pop_front() {
             let number = ticket.number();
-            // No thread steps it any more. The hall keeps its ticket until the places have all of them back.
+            // No thread steps it any more. The injector keeps its ticket until the slots have all of them back.
             let _ = self.shared.queue(ticket);
             self.given = self.given.max(number);
             wake(&mut agenda.ready, number)?;

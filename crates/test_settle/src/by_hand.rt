@@ -103,10 +103,10 @@ fn step<J: Run, R: Wait + Copy>(
     time: u64,
     withholds: bool,
 ) {
-    let Some(place) = shared.places.of(number) else {
+    let Some(slot) = shared.slots.of(number) else {
         return;
     };
-    let mut guard = place.lock_joined(shared.rt);
+    let mut guard = slot.lock_joined(shared.rt);
     let Some(seated) = guard.as_mut() else {
         return;
     };
@@ -157,10 +157,10 @@ fn close_all<'p, J: Run, R: Wait + Copy>(
 ) -> Result<Vec<Closing<'p, J, R>>, RunError> {
     let mut closings = Vec::new(shared.alloc);
     for number in 1..=MOST_INSTANCES {
-        let Some(place) = shared.places.of(number) else {
+        let Some(slot) = shared.slots.of(number) else {
             continue;
         };
-        if let Some(seated) = place.leave(shared.rt) {
+        if let Some(seated) = slot.leave(shared.rt) {
             closings.push(close(seated, shared, own, whole, at)?)?;
         }
     }

@@ -26,7 +26,8 @@ cut s
 end 0 cut
 ";
 
-/// A run of `PING_PONG` that is cut at its limit, the instance whose senders are lost then, and the number that is told.
+/// A run of `PING_PONG` that is cut at its limit, the instance whose senders are lost then, and the number that is
+/// told.
 struct Loss {
     limit: u64,
     senders_of: u32,
@@ -110,7 +111,7 @@ fn no_lost_senders(rt: HostRuntime) {
     assert!(rt; text_of(&rt, alloc, &report, &given.system).as_str() == CUT);
 }
 
-/// An instance that isn't in its place is told.
+/// An instance that isn't in its slot is told.
 #[test]
 fn lost_instance(rt: HostRuntime) {
     let alloc = rt.alloc();

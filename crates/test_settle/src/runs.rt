@@ -17,7 +17,7 @@ use std::alloc::Global;
 use std::marker::Brand;
 use std::sync::Wait;
 use std::thread::Threads;
-use threads_instance::{Left, Places};
+use threads_instance::{Left, Slots};
 use threads_ports::instances::birth;
 use threads_ports::{
     Entries, NewPorts, NumberSeat, Numbers, Peers, Ports, Run, Seat, Table, birth as ports,
@@ -38,7 +38,7 @@ pub enum Way {
     AtOnce,
     /// By `settle`, after so many transitions.
     After(u64),
-    /// By `settle`, once this instance isn't in its place any more.
+    /// By `settle`, once this instance isn't in its slot any more.
     WithoutInstance(u32),
     /// As a run that is cut at its limit, once the senders of this instance are let go. None: all are there.
     WithoutSenders(Option<u32>),
@@ -105,7 +105,7 @@ fn run_common<J: Run, R: Threads + Wait + Copy + Sync>(
 {
     let Plan { alloc, limit, .. } = plan;
     let system = &given.system;
-    let mut places = Places::new(alloc)?;
+    let mut slots = Slots::new(alloc)?;
     let tables = Tables::new(alloc, system, 1, limit)?;
     let shared = Shared {
         alloc,
@@ -113,11 +113,11 @@ fn run_common<J: Run, R: Threads + Wait + Copy + Sync>(
         system,
         common,
         tables: &tables,
-        places: &places,
+        slots: &slots,
         keeps_course: false,
     };
     let report = run_shared(&shared, given, plan, seat);
-    tables.end_with(&mut places);
+    tables.end_with(&mut slots);
     report
 }
 
@@ -179,10 +179,10 @@ fn settle_by<J: Run, R: Threads + Wait + Copy + Sync>(
     Ok(settled.report)
 }
 
-/// Takes an instance out of its place, and lets it go.
+/// Takes an instance out of its slot, and lets it go.
 fn lose_instance<J: Run, R: Wait + Copy>(shared: &Shared<'_, '_, '_, J, R>, number: u32) {
-    if let Some(place) = shared.places.of(number) {
-        let _ = place.leave(shared.rt);
+    if let Some(slot) = shared.slots.of(number) {
+        let _ = slot.leave(shared.rt);
     }
 }
 
@@ -224,17 +224,17 @@ fn closings_without<'p, J: Run, R: Wait + Copy>(
     Ok(closings)
 }
 
-/// What is left of the instance of this number. None: nobody is in its place.
+/// What is left of the instance of this number. None: nobody is in its slot.
 fn closing_of<'p, J: Run, R: Wait + Copy>(
     shared: &Shared<'_, '_, 'p, J, R>,
     own: &mut Own<J>,
     at: Ticks,
     number: u32,
 ) -> Result<Option<Closing<'p, J, R>>, RunError> {
-    let Some(place) = shared.places.of(number) else {
+    let Some(slot) = shared.slots.of(number) else {
         return Ok(None);
     };
-    match place.leave(shared.rt) {
+    match slot.leave(shared.rt) {
         Some(seated) => Ok(Some(close(seated, shared, own, false, at)?)),
         None => Ok(None),
     }

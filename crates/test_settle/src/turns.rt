@@ -24,8 +24,8 @@ const ROUNDS: u32 = 2;
 /// After how many steps of a crew each of its workers has had a break, on average.
 const STEPS_AWAKE: usize = 1_024;
 
-/// After so few steps of all there is a break where one that is to be stopped must have a processor before another one has
-/// made 1,000 steps: else all signals go to it, and none to the next one.
+/// After so few steps of all there is a break where one that is to be stopped must have a processor before another one
+/// has made 1,000 steps: else all signals go to it, and none to the next one.
 const STEPS_AT_ONCE: usize = 16;
 
 /// Each instance makes so great a part of its serial transitions, at least.
@@ -42,7 +42,7 @@ static THREE: &str = "system S;
 static SIX_HUNDRED: &str = "system S;
     process P (600); start; nextstate s; state s; provided true; nextstate -; endprocess; endsystem;";
 
-/// As many that the director wakes at once.
+/// As many that the driver wakes at once.
 static WOKEN: &str = "system S;
     process P (600); timer T; start; set(now + 1, T); nextstate w; state w; input T; nextstate s; endstate;
     state s; provided true; nextstate -; endprocess; endsystem;";

@@ -1,9 +1,9 @@
 pub mod Doings
-pub mod Hall
+pub mod Injector
 pub mod Local
 pub mod Numbers
 pub mod Outbox
-pub mod Places
+pub mod Slots
 pub mod RunBy
 pub mod ThreadInstance
 pub mod ThreadWorld

@@ -1,4 +1,4 @@
-//! What the mark of its place asks of an instance.
+//! What the state of its slot asks of an instance.
 
 use crate::queue::Rests;
 use crate::thread_instance::ThreadInstance;

@@ -5,10 +5,10 @@ ghost use Rattle.threads_shared.specs.Lookout.{is_away, with_visits};
 
 use std::alloc::{AllocError, Global};
 
-/// What a worker has seen of the local queues of the crew: whether each of the others still comes to its own.
+/// What a worker has seen of the local queues of the workers: whether each of the others still comes to its own.
 #[derive(Drop)]
 pub struct Lookout {
-    /// For each of the crew, how often it had come to its queue, when this worker looked last.
+    /// For each worker, how often it had come to its queue, when this worker looked last.
     pub visits: Vec<u64>,
     /// How many jobs this worker has done since.
     pub jobs: usize,
@@ -36,8 +36,8 @@ impl Lookout {
         Ok(Lookout { visits, jobs: 0 })
     }
 
-    /// Whether this worker, which has come to its queue so often, hasn't come since the last look. From now on this look is
-    /// the last one.
+    /// Whether this worker, which has come to its queue so often, hasn't come since the last look. From now on this
+    /// look is the last one.
     pub fn is_away(&mut self, worker: usize, visits: u64) -> bool
         ensures away { result ≡ is_away worker visits self.old.visits.items }
         ensures seen { self.new.visits.items ≡ with_visits worker visits self.old.visits.items }

@@ -22,12 +22,12 @@ pub struct Made {
     pub version: u64,
 }
 
-/// Makes an instance of a process, with these values of its parameters: at one moment it is entered, lives, and is in its
-/// place before its start, where it has something to do. Its ticket is the answer, and is the caller's to queue. None: as
-/// many live as may, or all numbers are drawn.
+/// Makes an instance of a process, with these values of its parameters: at one moment it is entered, lives, and is in
+/// its slot before its start, where it has something to do. Its ticket is the answer, and is the caller's to queue.
+/// None: as many live as may, or all numbers are drawn.
 ///
-/// Refused for lack of memory: nobody is entered, and nobody lives who didn't before. The instance is made for the port of
-/// its number, so it is made after the draw. If it finds no memory, the number is spent: nobody gets it.
+/// Refused for lack of memory: nobody is entered, and nobody lives who didn't before. The instance is made for the port
+/// of its number, so it is made after the draw. If it finds no memory, the number is spent: nobody gets it.
 pub fn make<J: Run, R: Wait + Copy>(
     shared: &Shared<'_, '_, '_, J, R>,
     seat: &mut NumberSeat<J>,
@@ -41,11 +41,11 @@ pub fn make<J: Run, R: Wait + Copy>(
     ensures rights { (seat.new.parts ≡ seat.old.parts) × (seat.new.left ≡ seat.old.left) }
 {
     // Before: those that live are within the process's maximum, by the roster's type, and no create is under way, since
-    // each is made under this lock. After: the same, and there is one instance more, or none: with its number, its entry,
-    // its life and the version of all in this one section. So who finds as many living as may finds them by their numbers.
-    // A job has the lock of its instance's place while it makes one. The place that is locked here is one that no other
-    // thread can step in yet, and who has the lock of the owners takes no other: so no two threads wait for each other.
-    // Nobody waits for an instance to be made, so nobody is woken.
+    // each is made under this lock. After: the same, and there is one instance more, or none: with its number, its
+    // entry, its life and the version of all in this one section. So who finds as many living as may finds them by
+    // their numbers. A job has the lock of its instance's slot while it makes one. The slot that is locked here is one
+    // that no other thread can step in yet, and who has the lock of the owners takes no other: so no two threads wait
+    // for each other. Nobody waits for an instance to be made, so nobody is woken.
     let mut roster = shared.tables.roster.lock(shared.rt);
     make_in(&mut roster, shared, seat, process, parent, values)
 }
@@ -193,7 +193,7 @@ fn inbox_of<'p, J: Run, R: Wait + Copy>(
     }
 }
 
-/// Enters an instance: from now on a signal to its number reaches its port, and it is in its place. The answer is its
+/// Enters an instance: from now on a signal to its number reaches its port, and it is in its slot. The answer is its
 /// ticket. Before that the version of this roster is announced in which it lives.
 fn enter<'s, 'p, J: Run, R: Wait + Copy>(
     roster: &Roster,
@@ -209,7 +209,7 @@ fn enter<'s, 'p, J: Run, R: Wait + Copy>(
         pid,
         parent,
     } = who;
-    let Some(place) = shared.places.of(pid) else {
+    let Some(slot) = shared.slots.of(pid) else {
         return Err(AllocError);
     };
     let entered = Entered {
@@ -217,15 +217,15 @@ fn enter<'s, 'p, J: Run, R: Wait + Copy>(
         process,
         parent,
     };
-    // A thread that has the number from the script finds the entry without a lock. What it looks up then is by a version
-    // in which the instance lives, as if all this were one moment.
+    // A thread that has the number from the script finds the entry without a lock. What it looks up then is by a
+    // version in which the instance lives, as if all this were one moment.
     shared.tables.signs.announce_version(roster);
     if shared.common.entries.enter(entered).is_err() {
         return Err(AllocError);
     }
-    // Before: the instance is entered, and nobody is in its place. After: it is there and marked, and the caller has its
+    // Before: the instance is entered, and nobody is in its slot. After: it is there and ready, and the caller has its
     // ticket, so no other thread steps it. A signal that came between is in its port, and its first steps take it.
-    match place.enter(shared.rt, instance) {
+    match slot.enter(shared.rt, instance) {
         Some(ticket) => Ok(ticket),
         None => Err(AllocError),
     }

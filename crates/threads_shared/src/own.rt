@@ -27,13 +27,13 @@ const MOST_IN_HAND: usize = 1_000;
 pub struct Own<J: Run> {
     pub reader: Reader,
     pub seat: NumberSeat<J>,
-    /// The tickets that this thread has, and that are in no queue yet: of those that its step has created or woken, and of
-    /// its last job. A worker puts them into its local queue before it makes another step.
+    /// The tickets that this thread has, and that are in no queue yet: of those that its step has created or woken, and
+    /// of its last job. A worker puts them into its local queue before it makes another step.
     pub hand: VecDeque<Ticket>,
-    /// How many jobs this thread has done since it asked the hall for numbers. A job of several turns counts as
+    /// How many jobs this thread has done since it asked the injector for numbers. A job of several turns counts as
     /// so many.
     pub jobs: usize,
-    /// What it has seen of the local queues of the crew.
+    /// What it has seen of the local queues of the workers.
     pub lookout: Lookout,
     /// The fuses of the step that is being made, which go into the wheel after it.
     pub fuses: Vec<Fuse>,
@@ -52,9 +52,9 @@ pub struct Own<J: Run> {
 }
 
 impl<J: Run> Own<J> {
-    /// The state with which a thread begins, in a system of so many processes: it has no number, has sent nothing, knows
-    /// the roster's first version, in which nobody lives, looks at no other worker, and has made no transition. Refused for
-    /// lack of memory.
+    /// The state with which a thread begins, in a system of so many processes: it has no number, has sent nothing,
+    /// knows the roster's first version, in which nobody lives, looks at no other worker, and has made no transition.
+    /// Refused for lack of memory.
     pub fn new(
         alloc: Global,
         reader: Reader,
@@ -126,8 +126,8 @@ impl<J: Run> Own<J> {
         self.living.as_mut_slice().copy_from_slice(roster.living());
     }
 
-    /// Notes the version by which it has looked up to whom a signal goes. A Pid is its own target. All else depends on who
-    /// lives.
+    /// Notes the version by which it has looked up to whom a signal goes. A Pid is its own target. All else depends on
+    /// who lives.
     pub fn note_look_up(&mut self, to: Dest)
         ensures noted { NotesLookUp to self.old.version self.old.versions self.new.versions }
         ensures rest { self.new ≡ record self.old { versions = self.new.versions } }
@@ -158,8 +158,8 @@ impl<J: Run> Own<J> {
         if self.fuses.is_empty() {
             return Ok(());
         }
-        // Before: the instance that set the timers is this thread's still, so the clock doesn't move. After: the fuses are
-        // in the wheel, for whoever moves the clock next.
+        // Before: the instance that set the timers is this thread's still, so the clock doesn't move. After: the fuses
+        // are in the wheel, for whoever moves the clock next.
         let mut wheel = tables.wheel.lock(rt);
         for _ in 0..self.fuses.len() {
             let Some(fuse) = self.fuses.pop() else {
@@ -172,7 +172,7 @@ impl<J: Run> Own<J> {
         Ok(())
     }
 
-    /// Lets it go. What this thread has in hand goes into the hall.
+    /// Lets it go. What this thread has in hand goes into the injector.
     pub fn end_with<R: Wait + Copy>(self, shared: &Shared<'_, '_, '_, J, R>) {
         let Own {
             reader: _,

@@ -6,7 +6,7 @@ ghost use Rattle.threads_shared.specs.Signs.{limit_of, part_of, workers_of};
 use crossbeam_utils::CachePadded;
 use std::hint::spin_loop;
 use std::sync::atomic::{AtomicBool, AtomicU64, AtomicUsize, Ordering};
-use threads_instance::Hall;
+use threads_instance::Injector;
 use threads_ports::Roster;
 
 /// How many transitions a thread makes at most before it adds them to the sum of all.
@@ -15,8 +15,8 @@ const MOST_MOVES: u64 = 64;
 /// How often a worker without a number looks for one before it sleeps.
 const MOST_LOOKS: u32 = 5_000;
 
-/// The words of a run that all threads look at, without a lock. No contract says what is in one: another thread may change
-/// it at any time. Each is on cache lines of its own, so a look at one costs nothing while another changes.
+/// The words of a run that all threads look at, without a lock. No contract says what is in one: another thread may
+/// change it at any time. Each is on cache lines of its own, so a look at one costs nothing while another changes.
 #[derive(Drop)]
 pub struct Signs {
     version: CachePadded<AtomicU64>,
@@ -49,8 +49,8 @@ impl Signs {
         }
     }
 
-    /// How many transitions a thread makes at most before it adds them to the sum of all, where there are so many workers:
-    /// so few that the run goes past the limit by a quarter of it at most, and by 64 a worker; one at least.
+    /// How many transitions a thread makes at most before it adds them to the sum of all, where there are so many
+    /// workers: so few that the run goes past the limit by a quarter of it at most, and by 64 a worker; one at least.
     pub fn part(&self, workers: usize) -> u64
         ensures { result ≡ part_of (limit_of self.now) workers }
     {
@@ -68,19 +68,19 @@ impl Signs {
 
     /// Notes the roster's version. The caller has the lock of the roster.
     pub fn note_version(&self, roster: &Roster) {
-        // Before: the word has the version with which the lock of the roster was left last, or the one that was announced
-        // since. After: that with which it is left next. So who sees the version that it knows already knows the roster as
-        // it was at that look, and who sees another one looks at it under its lock.
+        // Before: the word has the version with which the lock of the roster was left last, or the one that was
+        // announced since. After: that with which it is left next. So who sees the version that it knows already knows
+        // the roster as it was at that look, and who sees another one looks at it under its lock.
         self.version.store(roster.version(), Ordering::SeqCst);
     }
 
-    /// Notes the version that the roster has after its next change. The caller has the lock of the roster, and changes it
-    /// before it leaves the lock, or notes its version again.
+    /// Notes the version that the roster has after its next change. The caller has the lock of the roster, and changes
+    /// it before it leaves the lock, or notes its version again.
     pub fn announce_version(&self, roster: &Roster) {
-        // Before: the word has the version with which the lock of the roster was left last, and nobody has seen what the
-        // caller is about to show. After: it has the next one. So who sees what is shown after this, and looks up then,
-        // sees another version than it knows, and looks at the roster under its lock, which it has once the caller has
-        // left it.
+        // Before: the word has the version with which the lock of the roster was left last, and nobody has seen what
+        // the caller is about to show. After: it has the next one. So who sees what is shown after this, and looks up
+        // then, sees another version than it knows, and looks at the roster under its lock, which it has once the
+        // caller has left it.
         self.version
             .store(roster.version().saturating_add(1), Ordering::SeqCst);
     }
@@ -89,37 +89,38 @@ impl Signs {
     pub fn add_moves(&self, moves: u64) -> bool
         ensures { limit_of self.now ≤ moves → result ≡ true }
     {
-        // Before: the sum of what was added. After: with these. The caller adds each transition once, after it is made, so
-        // the sum is never more than the transitions made.
+        // Before: the sum of what was added. After: with these. The caller adds each transition once, after it is made,
+        // so the sum is never more than the transitions made.
         let before = self.moves.fetch_add(moves, Ordering::SeqCst);
         before.saturating_add(moves) >= self.limit
     }
 
-    /// How many transitions were added to the sum of all. Once all threads are joined, these are all that were made: each
-    /// adds what it has before it ends.
+    /// How many transitions were added to the sum of all. Once all threads are joined, these are all that were made:
+    /// each adds what it has before it ends.
     pub fn moves(&self) -> u64 {
         self.moves.load(Ordering::SeqCst)
     }
 
-    /// Notes how many workers sleep, and how many numbers are in the hall's queue. The caller has the lock of the hall.
-    pub fn note(&self, hall: &Hall) {
-        // Before: the words are as the hall was when its lock was left last. After: as it is. Who looks without the lock
-        // may see the old ones: both are hints, and the hall itself is asked before a worker sleeps.
-        self.sleepers.store(hall.sleepers(), Ordering::SeqCst);
-        self.queued.store(hall.queued(), Ordering::SeqCst);
+    /// Notes how many workers sleep, and how many numbers are in the injector's queue. The caller has the lock of the
+    /// injector.
+    pub fn note(&self, injector: &Injector) {
+        // Before: the words are as the injector was when its lock was left last. After: as it is. Who looks without the
+        // lock may see the old ones: both are hints, and the injector itself is asked before a worker sleeps.
+        self.sleepers.store(injector.sleepers(), Ordering::SeqCst);
+        self.queued.store(injector.queued(), Ordering::SeqCst);
     }
 
-    /// Whether a worker has no number: it sleeps, or looks for one. A look, which may be late: what is shared by it is in
-    /// the hall, where the next worker without a number finds it.
+    /// Whether a worker has no number: it sleeps, or looks for one. A look, which may be late: what is shared by it is
+    /// in the injector, where the next worker without a number finds it.
     pub fn has_idle(&self) -> bool {
         self.sleepers.load(Ordering::SeqCst) > 0 || self.seekers.load(Ordering::SeqCst) > 0
     }
 
-    /// Looks for a while whether a number is queued, on behalf of a worker that has none. Others share with it meanwhile.
-    /// Whatever it sees, the worker asks the hall then, which looks under its lock.
+    /// Looks for a while whether a number is queued, on behalf of a worker that has none. Others share with it
+    /// meanwhile. Whatever it sees, the worker asks the injector then, which looks under its lock.
     pub fn seek(&self) {
-        // Before: the worker has no number, and isn't counted among those that look. After: it is, so who has two numbers
-        // or more gives some to the hall.
+        // Before: the worker has no number, and isn't counted among those that look. After: it is, so who has two
+        // numbers or more gives some to the injector.
         self.seekers.fetch_add(1, Ordering::SeqCst);
         for _ in 0..MOST_LOOKS {
             if self.has_queued() || self.is_closed() || self.is_still() {
@@ -127,19 +128,19 @@ impl Signs {
             }
             spin_loop();
         }
-        // Before: the worker is counted among those that look. After: it isn't, and it still has no number. What was given
-        // to the hall for it is there, unless another worker has it by now. It asks for it next, and isn't noted as asleep
-        // before that: so no wake-up is lost, whatever it saw.
+        // Before: the worker is counted among those that look. After: it isn't, and it still has no number. What was
+        // given to the injector for it is there, unless another worker has it by now. It asks for it next, and isn't
+        // noted as asleep before that: so no wake-up is lost, whatever it saw.
         self.seekers.fetch_sub(1, Ordering::SeqCst);
     }
 
-    /// Whether numbers are in the hall's queue. A look, which may be late.
+    /// Whether numbers are in the injector's queue. A look, which may be late.
     pub fn has_queued(&self) -> bool {
         self.queued.load(Ordering::SeqCst) > 0
     }
 
-    /// Whether no worker has a number: each sleeps or looks for one, so none comes before the clock moves. A look, which
-    /// may be late, or early if a parker let a worker go by itself. It tells only that it is no use to look on.
+    /// Whether no worker has a number: each sleeps or looks for one, so none comes before the clock moves. A look,
+    /// which may be late, or early if a parker let a worker go by itself. It tells only that it is no use to look on.
     fn is_still(&self) -> bool {
         let seekers = self.seekers.load(Ordering::SeqCst);
         seekers.saturating_add(self.sleepers.load(Ordering::SeqCst)) >= self.workers

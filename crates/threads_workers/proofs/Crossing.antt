@@ -19,7 +19,7 @@ use Rattle.threads_instance.proofs.doings.Doings.TheSendSync as some-doings
 use Rattle.threads_instance.proofs.outbox.Outbox.TheSendSync as an-outbox
 use Rattle.threads_instance.specs.contracts.thread_instance.ThreadInstance as ThreadInstance
 use Rattle.threads_instance.specs.contracts.thread_instance.ThreadInstance.TheInside as InsideThread
-use Rattle.threads_instance.proofs.queue.places.Places.TheSendSync as some-places
+use Rattle.threads_instance.proofs.queue.slots.Slots.TheSendSync as some-slots
 use Rattle.threads_ports.specs.declared.senders.run.Run as run
 use Rattle.threads_shared.proofs.common.Common.TheSendSync as a-common
 use Rattle.threads_shared.proofs.tables.Tables.TheSendSync as some-tables
@@ -71,7 +71,7 @@ module _ (l s p : NamedLft) (J R : RattleType) (j : run.Ghosts J.Denot) (w : wai
           (
             search (some-tables.the_sync, sendable),
             (
-              search (some-places.the_sync, thread_instance, held.the_send, sendable, owners.crosses) depth 20,
+              search (some-slots.the_sync, thread_instance, held.the_send, sendable, owners.crosses) depth 20,
               (search sendable, tt),
             ),
           ),

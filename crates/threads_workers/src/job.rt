@@ -14,19 +14,20 @@ use threads_ports::Run;
 use threads_shared::{Addressees, Own, Seated, Shared, StepRuntime, note_stepped};
 
 /// How many steps a turn has at most, so that all that have something to do get theirs: the others of a worker's local
-/// queue after it, and those in the hall when the worker looks there, after so many jobs. The fewer, the sooner others find
-/// what waits for a worker that isn't run. Its steps share the two locks of a job, that of the place and that of the queue.
+/// queue after it, and those in the injector when the worker looks there, after so many jobs. The fewer, the sooner
+/// others find what waits for a worker that isn't run. Its steps share the two locks of a job, that of the slot and
+/// that of the queue.
 const STEPS_PER_TURN: u32 = 16;
 
 /// After so many steps of a turn a worker looks whether another one has no number.
 const STEPS_PER_LOOK: u32 = 8;
 
-/// After how many jobs a worker looks into the hall, whatever its local queue has, and at the others' local queues: as many
-/// as it takes numbers out at once at most. So each that it took has had its job by then, and what a look costs is shared
-/// by as many jobs.
+/// After how many jobs a worker looks into the injector, whatever its local queue has, and at the others' local queues:
+/// as many as it takes numbers out at once at most. So each that it took has had its job by then, and what a look costs
+/// is shared by as many jobs.
 const JOBS_PER_LOOK: usize = MOST_TAKEN;
 
-/// After how many jobs a worker that has one number alone looks into the hall, if numbers are queued there.
+/// After how many jobs a worker that has one number alone looks into the injector, if numbers are queued there.
 const JOBS_OF_ONE_PER_LOOK: usize = 8;
 
 /// The result of a job.
@@ -42,9 +43,9 @@ enum Left {
     More,
 }
 
-/// Makes steps of the instance that this ticket names, until it has nothing to do, ends, or has had its turn. The tickets
-/// that are to be queued then are in this worker's hand. Refused for lack of memory for the run's own tables: this one is
-/// there, too.
+/// Makes steps of the instance that this ticket names, until it has nothing to do, ends, or has had its turn. The
+/// tickets that are to be queued then are in this worker's hand. Refused for lack of memory for the run's own tables:
+/// this one is there, too.
 pub fn steps_of<J: Run, R: Wait + Copy, G: Gate>(
     shared: &Shared<'_, '_, '_, J, R>,
     own: &mut Own<J>,
@@ -52,17 +53,17 @@ pub fn steps_of<J: Run, R: Wait + Copy, G: Gate>(
     gate: &G,
     ticket: Ticket,
 ) -> Result<(), AllocError> {
-    // The ticket is this thread's, so the lock is free. It is left before the mark is set, so the next that has the ticket
-    // finds it free, too.
-    let place = shared.places.at(&ticket);
-    let mut guard = place.lock(shared.rt, &ticket);
+    // The ticket is this thread's, so the lock is free. It is left before the mark is set, so the next that has the
+    // ticket finds it free, too.
+    let slot = shared.slots.at(&ticket);
+    let mut guard = slot.lock(shared.rt, &ticket);
     match turns_at(shared, own, local, gate, &mut guard, ticket.number()) {
-        Ok(Left::Idle) => match place.rest(guard, ticket) {
+        Ok(Left::Idle) => match slot.rest(guard, ticket) {
             Some(again) => shared.put(&mut own.hand, again),
             None => Ok(()),
         },
         Ok(Left::Ended) => {
-            place.end(guard, ticket);
+            slot.end(guard, ticket);
             Ok(())
         }
         Ok(Left::Signals | Left::More) => {
@@ -77,9 +78,9 @@ pub fn steps_of<J: Run, R: Wait + Copy, G: Gate>(
     }
 }
 
-/// Whether a worker that has so many numbers is to look into the hall, whatever its local queue has. With one alone it does
-/// so after fewer jobs, if numbers are queued there: else an instance that sends on and on would have sent much before
-/// those to whom it sends get their turn.
+/// Whether a worker that has so many numbers is to look into the injector, whatever its local queue has. With one alone
+/// it does so after fewer jobs, if numbers are queued there: else an instance that sends on and on would have sent much
+/// before those to whom it sends get their turn.
 pub fn is_to_look<J: Run, R: Wait + Copy>(
     shared: &Shared<'_, '_, '_, J, R>,
     own: &Own<J>,
@@ -100,7 +101,7 @@ pub fn count_job<J: Run>(own: &mut Own<J>) {
     own.lookout.jobs = own.lookout.jobs.saturating_add(1);
 }
 
-/// The turns of who is in a place, if somebody is.
+/// The turns of who is in a slot, if somebody is.
 fn turns_at<'s, 'p, J: Run, R: Wait + Copy, G: Gate>(
     shared: &Shared<'_, 's, 'p, J, R>,
     own: &mut Own<J>,
@@ -117,9 +118,9 @@ fn turns_at<'s, 'p, J: Run, R: Wait + Copy, G: Gate>(
     }
 }
 
-/// A turn of an instance, and more turns while signals wait for it and this worker has no other number: as if its number
-/// had gone into this worker's local queue, and had come out again. Each counts as a job, so what waits in the hall or for
-/// a worker that isn't run waits no longer for that.
+/// A turn of an instance, and more turns while signals wait for it and this worker has no other number: as if its
+/// number had gone into this worker's local queue, and had come out again. Each counts as a job, so what waits in the
+/// injector or for a worker that isn't run waits no longer for that.
 fn turns_of<'s, 'p, J: Run, R: Wait + Copy, G: Gate>(
     shared: &Shared<'_, 's, 'p, J, R>,
     own: &mut Own<J>,
@@ -145,8 +146,8 @@ fn has_others<J: Run>(own: &Own<J>, local: &LocalQueue) -> bool {
     !own.hand.is_empty() || !local.is_empty()
 }
 
-/// A turn: steps of an instance, until it has nothing to do, ends, or has made so many. Whom a step has created or woken
-/// is queued before the next step, so that its number doesn't wait for this worker.
+/// A turn: steps of an instance, until it has nothing to do, ends, or has made so many. Whom a step has created or
+/// woken is queued before the next step, so that its number doesn't wait for this worker.
 fn turn<'s, 'p, J: Run, R: Wait + Copy, G: Gate>(
     shared: &Shared<'_, 's, 'p, J, R>,
     own: &mut Own<J>,
@@ -171,9 +172,9 @@ fn turn<'s, 'p, J: Run, R: Wait + Copy, G: Gate>(
             Stepped::Idle => return Ok(Left::Idle),
             Stepped::Ended { .. } => return Ok(Left::Ended),
         }
-        // A look alone, after all puts of the step. Before: the number is this thread's, so the mark is READY, or AGAIN if
-        // something came. After: as before. If nothing was there, the mark is set to rest, which looks for AGAIN. What
-        // comes after this look sets it, so the number is queued again then: no wake-up is lost.
+        // A look alone, after all puts of the step. Before: the number is this thread's, so the mark is READY, or AGAIN
+        // if something came. After: as before. If nothing was there, the mark is set to rest, which looks for AGAIN.
+        // What comes after this look sets it, so the number is queued again then: no wake-up is lost.
         ahead = seated.ahead();
         if ahead == Ahead::Nothing {
             return Ok(Left::Idle);
@@ -198,8 +199,8 @@ fn is_to_share<J: Run, R: Wait + Copy>(
         && shared.tables.signs.has_idle()
 }
 
-/// One step of an instance, with all that comes after it: its fuses go into the wheel, whom it has sent something is woken,
-/// and who has ended lives no more. Where the course of the run is kept, the step is noted there.
+/// One step of an instance, with all that comes after it: its fuses go into the wheel, whom it has sent something is
+/// woken, and who has ended lives no more. Where the course of the run is kept, the step is noted there.
 #[tactic(auto, using(crate::proofs::Stepping::has_stepped))]
 pub fn step<'s, 'p, J: Run, R: Wait + Copy>(
     shared: &Shared<'_, 's, 'p, J, R>,
@@ -254,8 +255,8 @@ pub fn tell_moves<J: Run, R: Wait + Copy>(shared: &Shared<'_, '_, '_, J, R>, own
     own.moves = 0;
 }
 
-/// Wakes those to whom a step has sent something, after all that it sends is put. Of several, its record tells: its events
-/// there begin at `told`.
+/// Wakes those to whom a step has sent something, after all that it sends is put. Of several, its record tells: its
+/// events there begin at `told`.
 fn wake_addressees<J: Run, R: Wait + Copy>(
     shared: &Shared<'_, '_, '_, J, R>,
     own: &mut Own<J>,
@@ -281,18 +282,18 @@ fn wake_all<J: Run, R: Wait + Copy>(
     Ok(())
 }
 
-/// Wakes the instance of this number: where it rests, its ticket is in this thread's hand then. Room for it there is made
-/// before there is a ticket.
+/// Wakes the instance of this number: where it rests, its ticket is in this thread's hand then. Room for it there is
+/// made before there is a ticket.
 fn wake<J: Run, R: Wait + Copy>(
     shared: &Shared<'_, '_, '_, J, R>,
     own: &mut Own<J>,
     number: u32,
 ) -> Result<(), AllocError> {
-    let Some(place) = shared.places.of(number) else {
+    let Some(slot) = shared.slots.of(number) else {
         return Ok(());
     };
     own.hand.reserve(1)?;
-    if let Some(ticket) = place.wake() {
+    if let Some(ticket) = slot.wake() {
         own.hand.push_back_reserved(ticket);
     }
     Ok(())

@@ -2,12 +2,12 @@
 
 ghost use Rattle.std.specs.Prelude.{◌≡◌, ◌++◌, ◌∷◌, [], IfErr, MatchResult};
 
-use crate::queue::mark::Ticket;
+use crate::queue::slot_state::Ticket;
 use std::alloc::AllocFailed;
 use std::collections::VecDeque;
 use std::marker::Model;
 
-/// A ticket for which a queue found no memory. Its place takes it back, and nobody else can.
+/// A ticket for which a queue found no memory. Its slot takes it back, and nobody else can.
 pub struct Refused {
     ticket: Ticket,
 }
@@ -21,7 +21,7 @@ impl Model for Refused {
 }
 
 impl Refused {
-    /// The ticket, for its place.
+    /// The ticket, for its slot.
     pub(crate) fn ticket(self) -> Ticket
         ensures { result ≡ self }
     {

@@ -1,6 +1,6 @@
-//! What steps in a place, as far as its mark asks.
+//! What steps in a slot, as far as its state asks.
 
-/// What steps in a place. Its ticket goes back only if it has nothing to do, or has ended.
+/// What steps in a slot. Its ticket goes back only if it has nothing to do, or has ended.
 pub trait Rests {
     /// It has nothing to do, as far as it has looked.
     ghost at_rest: { Self → Type 0 };

@@ -1,6 +1,0 @@
-use Rattle.std.proofs.Common.{◌≡◌}
-use Rattle.threads_workers.proofs.director.Director.expire_due.Given as goal
-
-abbrev pub invariant-loop : goal.invariant-loop
-invariant-loop g l =
-    (l.self.environment.lines ≡ l.fn.self.environment.lines) × (l.self.time ≡ l.fn.self.time)

@@ -1,0 +1,6 @@
+use Rattle.std.proofs.Common.{◌≡◌}
+use Rattle.threads_workers.proofs.driver.Driver.expire_due.Given as goal
+
+abbrev pub invariant-loop : goal.invariant-loop
+invariant-loop g l =
+    (l.self.environment.lines ≡ l.fn.self.environment.lines) × (l.self.time ≡ l.fn.self.time)
