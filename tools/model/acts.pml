@@ -53,8 +53,8 @@ inline into_hand() {
     woke()
 }
 
-/* job.rt: steps_of, turns_of. Place::lock: the lock is free, and somebody is there. */
-inline lock_place() {
+/* job.rt: steps_of, turns_of. Slot::lock: the lock is free, and somebody is there. */
+inline lock_slot() {
     assert(!locked[number] && seated[number]);
     locked[number] = true;
     worked = true;

@@ -2,8 +2,8 @@
 
 inline check_number(y) {
     assert(!ticket[y]);                             /* No queue and no worker has the number. */
-    assert(!locked[y]);                             /* Nobody is in the place. */
-    assert(mark[y] == IDLE || mark[y] == OVER);
+    assert(!locked[y]);                             /* Nobody is in the slot.  */
+    assert(slot_state[y] == IDLE || slot_state[y] == OVER);
     assert(stopped[y] || !entered[y] || (started[y] && !TRUE_CONDITIONS(y) && !CAN_TAKE(y)))
 }
 

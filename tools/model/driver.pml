@@ -3,7 +3,7 @@
 inline begin(y) {
     entered[y] = true;
     seated[y] = true;
-    mark[y] = READY;
+    slot_state[y] = READY;
     be_ticket(y);
     put_number(injector, y)
 }
@@ -57,27 +57,27 @@ inline check_whole() {
     skip
 }
 
-inline marked_one() {
+inline woken_one() {
     number = 0;
-    goto marks
+    goto wakes
 }
 
 inline is_to_queue() {
     numbers ! number;
     number = 0;
-    goto marks
+    goto wakes
 }
 
 /* Whom to wake, in the order in which it was put. */
 chan woken = [INSTANCES + LINES] of { byte };
 
-/* The numbers of those that are marked and are to be queued. */
+/* The numbers of those that are woken and are to be queued. */
 chan numbers = [INSTANCES] of { byte };
 
 init {
     byte started_workers, other = NOBODY, next, number, count;
 
-    /* start.rt: begin. crew.rt: join_all */
+    /* start.rt: begin. pool.rt: join_all */
     atomic {
         begin(1);
         begin(2);
@@ -103,8 +103,8 @@ init {
 #endif
     fi;
 #endif
-    /* Injector::set_crew, under the injector's lock. */
-    crew = started_workers;
+    /* Injector::set_workers, under the injector's lock. */
+    workers = started_workers;
 
 look:
     /* driver.rt: look, under the injector's lock. */
@@ -112,11 +112,11 @@ look:
     :: injector_closed || signs_closed -> goto over
 #ifdef BUG_REST_OF_ALL_BUT_ONE
     /* It takes the run for one at rest while a worker is awake. */
-    :: !injector_closed && !signs_closed && COUNT_OF(asleep) + 1 >= crew && empty(injector)
-    :: !injector_closed && !signs_closed && (COUNT_OF(asleep) + 1 < crew || nempty(injector)) -> goto waits
+    :: !injector_closed && !signs_closed && COUNT_OF(asleep) + 1 >= workers && empty(injector)
+    :: !injector_closed && !signs_closed && (COUNT_OF(asleep) + 1 < workers || nempty(injector)) -> goto waits
 #else
-    :: !injector_closed && !signs_closed && COUNT_OF(asleep) == crew && empty(injector)
-    :: !injector_closed && !signs_closed && (COUNT_OF(asleep) != crew || nempty(injector)) -> goto waits
+    :: !injector_closed && !signs_closed && COUNT_OF(asleep) == workers && empty(injector)
+    :: !injector_closed && !signs_closed && (COUNT_OF(asleep) != workers || nempty(injector)) -> goto waits
 #endif
     fi;
 #if FAILS
@@ -179,13 +179,13 @@ look:
     :: atomic { heard == LINES && !last_heard && clock >= LAST -> last_heard = true }
     :: (heard < LINES && clock < 1) || (heard == LINES && (last_heard || clock < LAST)) -> break
     od;
-    /* driver.rt: queue_all. Each that something came for is marked. If its number is in no queue, it is the driver's
-       until all are marked. The code has the injector's lock from the first mark on. Here each mark is a moment of its own, in
-       which others may have that lock: so all schedules of the code are among these. */
-marks:
+    /* driver.rt: queue_all. Each that something came for is woken. If its number is in no queue, it is the driver's
+       until all are woken. The code has the injector's lock from the first wake on. Here each wake is a moment of its
+       own, in which others may have that lock: so all schedules of the code are among these. */
+wakes:
     if
     :: atomic { nempty(woken) -> woken ? number };
-        MARK_WAKE(number, is_to_queue, marked_one)
+        SLOT_WAKE(number, is_to_queue, woken_one)
     :: empty(woken)
     fi;
     /* Injector::add, under the injector's lock. */
@@ -202,7 +202,8 @@ marks:
     count = 0;
 #endif
 wakes:
-    /* Tables::sleeper, under the injector's lock: as many as there were numbers, while some sleep and some are queued. */
+    /* Tables::sleeper, under the injector's lock: as many as there were numbers, while some sleep and some are queued.
+       */
     atomic {
         if
         :: count > 0 && nempty(injector) -> count--; take_sleeper(other); set_signs()
@@ -223,7 +224,7 @@ waits:
 ends:
     close(other);
 over:
-    /* crew.rt: join_all */
+    /* pool.rt: join_all */
     close(other);
     done == started_workers;
 

@@ -24,9 +24,9 @@ inline set_signs() {
     set_queued()
 }
 
-/* Injector::part: of what waits, as much as each of the crew gets, and one at least. */
+/* Injector::part: of what waits, as much as each worker gets, and one at least. */
 inline part(count) {
-    count = len(injector) / crew;
+    count = len(injector) / workers;
     if
     :: count == 0 && len(injector) > 0 -> count = 1
     :: else
@@ -56,8 +56,8 @@ inline injector_share(me, one) {
 #endif
 }
 
-/* Injector::exchange: the first numbers of a worker go to the end of the injector's queue, those from its front to the front of
-   the worker's local queue. */
+/* Injector::exchange: the first numbers of a worker go to the end of the injector's queue, those from its front to the
+   front of the worker's local queue. */
 inline injector_exchange(me) {
     part(taken);
     count = (len(locals[me]) < len(injector) -> len(locals[me]) : len(injector));
@@ -85,8 +85,8 @@ inline injector_exchange(me) {
     od
 }
 
-/* tables.rt: Tables::relieve. LocalQueue::relieve, under that queue's lock: all of its numbers go to the end of the injector's
-   queue. One that sleeps is taken out, to be unparked. */
+/* tables.rt: Tables::relieve. LocalQueue::relieve, under that queue's lock: all of its numbers go to the end of the
+   injector's queue. One that sleeps is taken out, to be unparked. */
 inline injector_relieve(worker, one) {
 #ifdef BUG_RELIEF_DROPS
     locals[worker] ? moved;
@@ -101,8 +101,8 @@ inline injector_relieve(worker, one) {
     set_signs()
 }
 
-/* own.rt: Own::end_with. Shared::queue_all, under the injector's lock: what a worker that ends has in hand goes to the end of
-   the injector's queue. Those that sleep stay among those that sleep. */
+/* own.rt: Own::end_with. Shared::queue_all, under the injector's lock: what a worker that ends has in hand goes to the
+   end of the injector's queue. Those that sleep stay among those that sleep. */
 inline leave_hand() {
     if
     :: atomic { nempty(hand[me]) ->

@@ -1,7 +1,7 @@
 /* A job, in the loop of a worker: some steps of one instance. */
 
 begins:
-    atomic { lock_place() };
+    atomic { lock_slot() };
     if
     :: signs_closed -> goto more
     :: !signs_closed
@@ -105,16 +105,16 @@ take:
 
 #ifdef CREATE
 makes:
-    /* making.rt: enter. Entries::enter; Place::enter, first under the place's lock, then Mark::begin. */
+    /* making.rt: enter. Entries::enter; Slot::enter, first under the slot's lock, then SlotState::begin. */
     entered[INSTANCES] = true;
     atomic { assert(!locked[INSTANCES]); seated[INSTANCES] = true };
 #ifdef BUG_BEGIN_IDLE
-    /* Its mark doesn't say that its number is to be queued. */
-    mark[INSTANCES] = IDLE;
+    /* Its state doesn't say that its number is to be queued. */
+    slot_state[INSTANCES] = IDLE;
     atomic { be_ticket(INSTANCES);
 #else
     atomic { be_ticket(INSTANCES);
-        mark[INSTANCES] = READY;
+        slot_state[INSTANCES] = READY;
 #endif
         /* step_runtime.rt: create */
         put_number(hand[me], INSTANCES);
@@ -151,7 +151,7 @@ arms:
     atomic { fuse[number] = clock + 1; sets = false; next_act() };
 
 wakes:
-    MARK_WAKE(to_wake, into_hand, woke);
+    SLOT_WAKE(to_wake, into_hand, woke);
 
 counts:
 #if FAILS
@@ -188,8 +188,8 @@ counts:
     :: !stops_then
     fi;
 #endif
-    /* job.rt: turn. Instance::ahead, a look at the port. What is drawn and waits there is the worker's own, so the step is
-       a look at the queue. */
+    /* job.rt: turn. Instance::ahead, a look at the port. What is drawn and waits there is the worker's own, so the step
+       is a look at the queue. */
     if
 #ifdef BUG_LOOK_EARLY
     :: atomic { looked_empty -> looked_empty = false } -> goto idle
@@ -232,9 +232,9 @@ more:
 #if STOPS
 ended:
     locked[number] = false;
-    /* Mark::end */
+    /* SlotState::end */
     atomic {
-        mark[number] = OVER;
+        slot_state[number] = OVER;
         stopped[number] = true;
         ticket[number] = false;
         queue[number] = 0;
@@ -256,14 +256,14 @@ idle:
 #ifndef BUG_REST_LOCKED
     locked[number] = false;
 #endif
-    /* Mark::rest: the exchange of READY for IDLE. */
+    /* SlotState::rest: the exchange of READY for IDLE. */
     atomic {
         if
 #ifdef BUG_REST_UNCHECKED
         /* It doesn't look whether something came meanwhile. */
-        :: mark[number] = IDLE; ticket[number] = false
+        :: slot_state[number] = IDLE; ticket[number] = false
 #else
-        :: mark[number] == READY -> mark[number] = IDLE; ticket[number] = false
+        :: slot_state[number] == READY -> slot_state[number] = IDLE; ticket[number] = false
         :: else -> goto again
 #endif
         fi;
@@ -274,15 +274,15 @@ idle:
 #endif
     };
 #ifdef BUG_REST_LOCKED
-    /* It leaves the lock only after its mark is set. */
+    /* It leaves the lock only after its state is set. */
     atomic { locked[number] = false; number = 0 };
     goto round;
 #endif
 
 again:
-    /* Mark::rest: the store of READY. */
+    /* SlotState::rest: the store of READY. */
     atomic {
-        mark[number] = READY;
+        slot_state[number] = READY;
 #ifdef BUG_REST_LOCKED
         locked[number] = false;
 #endif

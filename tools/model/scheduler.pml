@@ -1,9 +1,9 @@
 /* How the threads of a run share out its instances, as a model for Spin. README.md beside it says what is modelled.
 
    A step of the model is one access to a word that threads share, or one section under a lock, with the thread's own
-   work before or after it. Each step names the function whose step it is, by file and name: mark.rt, places.rt and
+   work before or after it. Each step names the function whose step it is, by file and name: slot_state.rt, slots.rt and
    injector.rt are of threads_instance (queue); signs.rt, tables.rt, making.rt and own.rt of threads_shared; worker.rt,
-   job.rt, driver.rt, crew.rt and start.rt of threads_workers.
+   job.rt, driver.rt, pool.rt and start.rt of threads_workers.
 
    Each file is named after the one whose steps it has, so far as there is one.
 
@@ -68,7 +68,7 @@
 #include "shared.pml"
 #include "waking.pml"
 #include "injector.pml"
-#include "mark.pml"
+#include "slot_state.pml"
 #include "checks.pml"
 #include "acts.pml"
 #include "worker.pml"

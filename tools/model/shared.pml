@@ -1,6 +1,6 @@
 /* What the threads share, and what only the model knows. */
 
-/* mark.rt */
+/* slot_state.rt */
 #define OVER 0
 #define IDLE 1
 #define READY 2
@@ -9,8 +9,8 @@
 #define DRIVER 0
 #define NOBODY 255
 
-/* A place: its mark, its lock, and whether somebody is there. Numbers are from 1. */
-byte mark[INSTANCES + 1];
+/* A slot: its state, its lock, and whether somebody is there. Numbers are from 1. */
+byte slot_state[INSTANCES + 1];
 bool locked[INSTANCES + 1];
 bool seated[INSTANCES + 1];
 
@@ -43,10 +43,11 @@ bool saving[INSTANCES + 1];
 byte fuse[INSTANCES + 1];
 byte clock;
 
-/* injector.rt: the common queue, who sleeps (a bit for each worker), the crew, and whether the run is over. */
+/* injector.rt: the common queue, who sleeps (a bit for each worker), how many workers there are, and whether the run is
+   over. */
 chan injector = [INSTANCES] of { byte };
 byte asleep;
-byte crew = WORKERS;
+byte workers = WORKERS;
 bool injector_closed;
 
 /* local.rt: the local queue of each worker. Only it puts numbers in; others may take them out. */

@@ -21,7 +21,7 @@ inline park(thread) {
 }
 #endif
 
-/* waking.rt: Crew::wake */
+/* waking.rt: Unparkers::wake */
 inline unpark(one) {
     atomic { assert(one != NOBODY); give_token(one + 1); one = NOBODY }
 }

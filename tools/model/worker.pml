@@ -52,7 +52,8 @@ round:
     :: seekers == 0 -> goto gets
     fi;
 gives:
-    /* worker.rt: share. LocalQueue::put_all, under its lock. LocalQueue::share, under the injector's lock and its own. */
+    /* worker.rt: share. LocalQueue::put_all, under its lock. LocalQueue::share, under the injector's lock and its
+       own. */
     atomic { move_all(hand[me], locals[me]) };
     atomic {
         injector_share(me, other);
@@ -73,14 +74,17 @@ gets:
 #else
     :: atomic { worked && nempty(injector) -> worked = false } -> goto exchanges
 #endif
-    /* relief.rt: relieve_others, after 61 jobs, of those that haven't come to their queues: that is here after any job, or
-       not, of any other worker. Tables::relieve, under the injector's lock and that queue's. */
+    /* relief.rt: relieve_others, after 61 jobs, of those that haven't come to their queues: that is here after any job,
+       or not, of any other worker. Tables::relieve, under the injector's lock and that queue's. */
 #if WORKERS > 1
-    :: atomic { may_relieve && me != 0 && nempty(locals[0]) -> may_relieve = false; injector_relieve(0, other) } -> goto relieves
-    :: atomic { may_relieve && me != 1 && nempty(locals[1]) -> may_relieve = false; injector_relieve(1, other) } -> goto relieves
+    :: atomic { may_relieve && me != 0 && nempty(locals[0]) ->
+        may_relieve = false; injector_relieve(0, other) } -> goto relieves
+    :: atomic { may_relieve && me != 1 && nempty(locals[1]) ->
+        may_relieve = false; injector_relieve(1, other) } -> goto relieves
 #endif
 #if WORKERS > 2
-    :: atomic { may_relieve && me != 2 && nempty(locals[2]) -> may_relieve = false; injector_relieve(2, other) } -> goto relieves
+    :: atomic { may_relieve && me != 2 && nempty(locals[2]) ->
+        may_relieve = false; injector_relieve(2, other) } -> goto relieves
 #endif
 #ifdef BUG_RELIEF_TAKES_JOB
     /* It takes the number of a job, too. */
@@ -94,8 +98,8 @@ gets:
     /* It takes them for itself, even if it is noted as asleep. */
     :: atomic { nempty(locals[1 - me]) -> move_all(locals[1 - me], locals[me]) } -> goto gets
 #endif
-    /* LocalQueue::next. With an empty queue, which stays so, the number in hand is the next one. Else, under its lock, the
-       first of all. */
+    /* LocalQueue::next. With an empty queue, which stays so, the number in hand is the next one. Else, under its lock,
+       the first of all. */
     :: atomic { empty(locals[me]) && len(hand[me]) == 1 -> hand[me] ? number; note_job(number) } -> goto begins
     :: atomic { nempty(locals[me]) || len(hand[me]) > 1 ->
         move_all(hand[me], locals[me]);
@@ -114,8 +118,8 @@ gets:
 #else
 #define HAS_TOLD HAS_NONE
 #endif
-    /* signs.rt: Signs::seek. It looks for a while whether a number is queued, whether the run is over, and whether anybody
-       steps. Whatever it saw, it asks the injector then. */
+    /* signs.rt: Signs::seek. It looks for a while whether a number is queued, whether the run is over, and whether
+       anybody steps. Whatever it saw, it asks the injector then. */
     :: atomic { HAS_TOLD -> seekers++ } -> goto seeks
     fi;
 exchanges:
@@ -159,7 +163,8 @@ asks:
     :: true
     fi;
 #endif
-    /* worker.rt: next_turn. LocalQueue::turn: Injector::turn, and the words of the injector, under its lock and the queue's. */
+    /* worker.rt: next_turn. LocalQueue::turn: Injector::turn, and the words of the injector, under its lock and the
+       queue's. */
     atomic {
         worked = false;
 #if SPURIOUS
@@ -180,7 +185,7 @@ asks:
 trusts:     asleep = asleep | (1 << me);
             set_signs();
             if
-            :: COUNT_OF(asleep) == crew -> goto rests
+            :: COUNT_OF(asleep) == workers -> goto rests
             :: else -> goto parks
             fi
         :: !injector_closed && nempty(injector) ->
@@ -200,7 +205,7 @@ trusts:     asleep = asleep | (1 << me);
     goto round;
 
 rests:
-    /* All of the crew sleep. */
+    /* All workers sleep. */
 #ifndef BUG_REST_UNTOLD
     give_token(DRIVER);
 #endif
