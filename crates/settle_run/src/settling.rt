@@ -25,7 +25,7 @@ const MOST_NUMBERS: u32 = 1_000;
 /// cut, and nothing was lost between threads. A course has a row for each record.
 ///
 /// Memory: no room for the records, or for what is sent. Lost, with a number: an instance that is entered isn't in its
-/// place; in a whole run one doesn't rest; or as `report_of` tells it. At most `workers` threads look at the records.
+/// slot; in a whole run one doesn't rest; or as `report_of` tells it. At most `workers` threads look at the records.
 pub fn settle<J: Run, R: Threads + Wait + Copy + Sync>(
     shared: &Shared<'_, '_, '_, J, R>,
     own: &mut Own<J>,
@@ -66,15 +66,15 @@ fn close_all<'p, J: Run, R: Wait + Copy>(
     Ok(closings)
 }
 
-/// Takes the instance of this number out of its place. Lost: it isn't there.
+/// Takes the instance of this number out of its slot. Lost: it isn't there.
 fn leave<'s, 'p, J: Run, R: Wait + Copy>(
     shared: &Shared<'_, 's, 'p, J, R>,
     number: u32,
 ) -> Result<Seated<'s, 'p, J, R>, RunError> {
-    let Some(place) = shared.places.of(number) else {
+    let Some(slot) = shared.slots.of(number) else {
         return Err(RunError::Lost(number));
     };
-    match place.leave(shared.rt) {
+    match slot.leave(shared.rt) {
         Some(seated) => Ok(seated),
         None => Err(RunError::Lost(number)),
     }
