@@ -29,7 +29,7 @@ static MANY: &str = "system S;
 static MANY_SCRIPT: &str = "5";
 
 /// With how many workers a row is run, and how often with each.
-static CREWS: [usize; 3] = [1, 2, 4];
+static WORKERS: [usize; 3] = [1, 2, 4];
 
 const ROUNDS: u32 = 20;
 
@@ -67,7 +67,7 @@ fn expect_all<R: Threads + Wait + Abort + Copy + Send + Sync>(
     script: &str,
 ) {
     let given = make_given(rt, alloc, specification, script);
-    for workers in &CREWS {
+    for workers in &WORKERS {
         for _ in 0..ROUNDS {
             let begun = Begun {
                 steps: AtomicUsize::new(0),

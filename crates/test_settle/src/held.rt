@@ -18,7 +18,7 @@ static SPECIFICATION: &str = "system S;
 const INSTANCES: usize = 600;
 
 /// With how many workers the row is run. All but one are held.
-static CREWS: [usize; 4] = [2, 3, 4, 16];
+static WORKERS: [usize; 4] = [2, 3, 4, 16];
 
 /// The limit of transitions: so many that one worker comes to all instances before.
 const LIMIT: u64 = 300_000;
@@ -95,7 +95,7 @@ impl<'r, C: Clock> Watch for Hold<'r, C> {
 /// All instances begin a step while all workers but one are held in their first.
 #[test]
 fn one_worker_comes_to_all(rt: HostRuntime) {
-    for workers in &CREWS {
+    for workers in &WORKERS {
         expect_all(&rt, rt.alloc(), *workers);
     }
 }

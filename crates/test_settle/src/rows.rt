@@ -12,7 +12,7 @@ use std::sync::Wait;
 use std::thread::Threads;
 
 /// With how many workers a row is run.
-static CREWS: [usize; 4] = [1, 2, 4, 16];
+static WORKERS: [usize; 4] = [1, 2, 4, 16];
 
 /// How often a row is run with each number of workers: with all of them together 60 times.
 const ROUNDS: u32 = 15;
@@ -51,7 +51,7 @@ fn expect_row<R: Threads + Wait + Abort + Copy + Send + Sync>(rt: &R, alloc: Glo
         serial_text(rt, alloc, &given, LIMIT).as_str() == row.report,
         "serially"
     );
-    for workers in &CREWS {
+    for workers in &WORKERS {
         expect_text(rt, alloc, &given, *workers, ROUNDS, row.report);
     }
 }
@@ -93,7 +93,7 @@ fn thousand(rt: HostRuntime) {
 fn ping_pong(rt: HostRuntime) {
     let alloc = rt.alloc();
     let given = make_given(&rt, alloc, PING_PONG, "");
-    for workers in &CREWS {
+    for workers in &WORKERS {
         expect_cut(&rt, alloc, &given, *workers);
     }
 }

@@ -16,12 +16,12 @@ use std::thread::Threads;
 use std::time::{Clock, Duration};
 
 /// With how many workers a row is run.
-static CREWS: [usize; 5] = [1, 2, 3, 4, 16];
+static WORKERS: [usize; 5] = [1, 2, 3, 4, 16];
 
 /// How often a row is run with each number of workers.
 const ROUNDS: u32 = 2;
 
-/// After how many steps of a crew each of its workers has had a break, on average.
+/// After how many steps of a pool each of its workers has had a break, on average.
 const STEPS_AWAKE: usize = 1_024;
 
 /// After so few steps of all there is a break where one that is to be stopped must have a processor before another one
@@ -34,7 +34,7 @@ const PART: usize = 10;
 /// A limit that no row reaches which comes to its end.
 const LIMIT: u64 = 1_000_000;
 
-/// Fewer than most crews have workers.
+/// Fewer than most runs have workers.
 static THREE: &str = "system S;
     process P (3); start; nextstate s; state s; provided true; nextstate -; endprocess; endsystem;";
 
@@ -54,7 +54,7 @@ static STOPPED: &str = "system S; signal halt;
     state t; provided n < 1000; task n := n + 1; output halt; nextstate -; endprocess; endsystem;";
 
 /// Has the thread that makes the next step sleep a millisecond, again and again. The more workers there are, the sooner
-/// each sleeps: so most of a crew sleep at a time, and who is awake has a processor at once, though there are two for
+/// each sleeps: so most workers sleep at a time, and who is awake has a processor at once, though there are two for
 /// sixteen workers, and other programs run. Else a worker could wait for one, with the numbers that it has, until the
 /// others have used up the limit.
 #[derive(Drop)]
@@ -136,7 +136,7 @@ fn expect_turns<R: Threads + Wait + Abort + Clock + Copy + Send + Sync>(
     let given = make_given(rt, alloc, specification, script);
     let serial = serial_report(rt, alloc, &given, limit);
     assert!(rt; !serial.whole, "serially");
-    for workers in &CREWS {
+    for workers in &WORKERS {
         for _ in 0..ROUNDS {
             let every = steps_between(*workers);
             let report = report_with(rt, alloc, &given, *workers, every, limit);
@@ -168,7 +168,7 @@ fn stopped(rt: HostRuntime) {
     let alloc = rt.alloc();
     let given = make_given(&rt, alloc, STOPPED, "");
     assert!(rt; serial_report(&rt, alloc, &given, LIMIT).whole, "serially");
-    for workers in &CREWS {
+    for workers in &WORKERS {
         for _ in 0..ROUNDS {
             let report = report_with(&rt, alloc, &given, *workers, STEPS_AT_ONCE, LIMIT);
             assert!(rt; report.whole, "{workers} workers");

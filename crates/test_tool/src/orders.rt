@@ -38,24 +38,24 @@ static LINES: [(&str, usize); 10] = [
 const EVENTS: usize = 440;
 
 /// How many workers a run is tried with, how often. None: it is serial.
-static CREWS: [Option<u8>; 5] = [None, Some(1), Some(2), Some(4), Some(16)];
+static WORKERS: [Option<u8>; 5] = [None, Some(1), Some(2), Some(4), Some(16)];
 
 const ROUNDS: usize = 10;
 
 #[test]
 fn tells_each_event_once(rt: HostRuntime) {
-    for crew in &CREWS {
+    for workers in &WORKERS {
         for _ in 0..ROUNDS {
-            expect_lines(&rt, rt.alloc(), *crew);
+            expect_lines(&rt, rt.alloc(), *workers);
         }
     }
 }
 
 /// Sees that the order of a run by so many workers is known to its end, and that each of its lines is there.
-fn expect_lines<R: Abort + Wait + Threads + Sync>(rt: &R, alloc: Global, crew: Option<u8>) {
+fn expect_lines<R: Abort + Wait + Threads + Sync>(rt: &R, alloc: Global, workers: Option<u8>) {
     let mut written = Vec::new(alloc);
-    let notes = told(rt, alloc, View::Lines, crew, false, &mut written);
-    let workers = crew.unwrap_or(0);
+    let notes = told(rt, alloc, View::Lines, workers, false, &mut written);
+    let workers = workers.unwrap_or(0);
     assert!(rt; notes.stuck.is_none(), "{workers} workers");
     for (end, count) in &LINES {
         let found = lines_ending(&written, end);
@@ -69,9 +69,9 @@ fn expect_lines<R: Abort + Wait + Threads + Sync>(rt: &R, alloc: Global, crew: O
 
 #[test]
 fn tells_it_as_json(rt: HostRuntime) {
-    for crew in &CREWS {
+    for workers in &WORKERS {
         let mut written = Vec::new(rt.alloc());
-        let notes = told(&rt, rt.alloc(), View::Json, *crew, false, &mut written);
+        let notes = told(&rt, rt.alloc(), View::Json, *workers, false, &mut written);
         assert!(rt; notes.stuck.is_none());
     }
 }
@@ -89,11 +89,11 @@ fn draws_it_where_its_order_is_kept(rt: HostRuntime) {
 fn expect_drawn<R: Abort + Wait + Threads + Sync>(
     rt: &R,
     alloc: Global,
-    crew: Option<u8>,
+    workers: Option<u8>,
     keeps_order: bool,
 ) {
     let mut written = Vec::new(alloc);
-    let notes = told(rt, alloc, View::Trace, crew, keeps_order, &mut written);
+    let notes = told(rt, alloc, View::Trace, workers, keeps_order, &mut written);
     let run = notes.run.as_ref().expect(rt, "a run");
     let all = Selection {
         only: Vec::new(alloc),

@@ -15,11 +15,11 @@ endsystem;
 ";
 
 /// How many workers a run is tried with.
-static CREWS: [u8; 5] = [1, 2, 3, 4, 16];
+static WORKERS: [u8; 5] = [1, 2, 3, 4, 16];
 
 #[test]
 fn cuts_at_the_limit(rt: HostRuntime) {
-    for workers in &CREWS {
+    for workers in &WORKERS {
         expect_cut(&rt, rt.alloc(), *workers);
     }
 }

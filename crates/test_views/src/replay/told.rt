@@ -12,9 +12,9 @@ use std::thread::Threads;
 use view_run::{Found, find_order};
 
 /// How many workers make a run.
-static CREWS: [usize; 3] = [1, 2, 4];
+static WORKERS: [usize; 3] = [1, 2, 4];
 
-/// How often each of these crews makes a run of a specification.
+/// How often each of these numbers of workers makes a run of a specification.
 const ROUNDS: usize = 30;
 
 /// A limit that whole runs don't reach.
@@ -30,7 +30,7 @@ pub fn expect_orders<R: Threads + Wait + Abort + Copy + Send + Sync>(
     whole: bool,
 ) {
     let given = make_given(rt, alloc, specification, script);
-    for workers in &CREWS {
+    for workers in &WORKERS {
         for _ in 0..ROUNDS {
             expect_order(rt, alloc, &given, *workers, limit, whole);
         }
