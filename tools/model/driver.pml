@@ -59,13 +59,13 @@ inline check_whole() {
 
 inline woken_one() {
     number = 0;
-    goto wakes
+    goto queues
 }
 
 inline is_to_queue() {
     numbers ! number;
     number = 0;
-    goto wakes
+    goto queues
 }
 
 /* Whom to wake, in the order in which it was put. */
@@ -182,7 +182,7 @@ look:
     /* driver.rt: queue_all. Each that something came for is woken. If its number is in no queue, it is the driver's
        until all are woken. The code has the injector's lock from the first wake on. Here each wake is a moment of its
        own, in which others may have that lock: so all schedules of the code are among these. */
-wakes:
+queues:
     if
     :: atomic { nempty(woken) -> woken ? number };
         SLOT_WAKE(number, is_to_queue, woken_one)
@@ -202,8 +202,8 @@ wakes:
     count = 0;
 #endif
 wakes:
-    /* Tables::sleeper, under the injector's lock: as many as there were numbers, while some sleep and some are queued.
-       */
+    /* Tables::sleeper, under the injector's lock: as many as there were numbers, while some sleep and some are
+       queued. */
     atomic {
         if
         :: count > 0 && nempty(injector) -> count--; take_sleeper(other); set_signs()
