@@ -1,5 +1,7 @@
 pub mod ByNumber
 pub mod Looks
+pub mod MoveLaws
+pub mod Moves
 pub mod PortTrack
 pub mod RosterTurns
 pub mod Track

@@ -1,5 +1,5 @@
 -- The looks of an owner at its port that found no more in it (Z.102: input, priority input, continuous signal).
-use Rattle.std.specs.Prelude.{◌==◌, ℕ, Bool, true, false, List, [], ◌∷◌, ◌++◌, None, Option, Some, if◌then◌else◌, length, option_to_list}
+use Rattle.std.specs.Prelude.{◌==◌, ◌||◌, ℕ, Bool, true, false, List, [], ◌∷◌, ◌++◌, None, Option, Some, if◌then◌else◌, length, option_to_list}
 use Rattle.std.specs.List.{list_any}
 use Rattle.port_model.specs.declared.selection.Class.{Class}
 use Rattle.port_model.specs.declared.selection.Class.TheVariants.{Priority}
@@ -26,22 +26,22 @@ found_where_taken None = found.Anything
 found_where_taken (Some table) = if list_any is_priority table.selection then found.Nothing else found.Anything
 
 -- The conditions of continuous signals are asked where nothing is found, the enabling ones before a look. Where a state
--- has both, it isn't known which of them failed.
-abbrev pub found_where_failed : Option StateTable → MoreFound
-found_where_failed None = found.Anything
-found_where_failed (Some table) =
+-- has both, it is given whether the one that failed had looked.
+abbrev pub found_where_failed : Bool → Option StateTable → MoreFound
+found_where_failed looked None = found.Anything
+found_where_failed looked (Some table) =
     if length table.continuous.items == 0 then found.Anything
-    else (if length table.conditions.items == 0 then found.Nothing else found.Unknown)
+    else (if looked || length table.conditions.items == 0 then found.Nothing else found.Anything)
 
 -- in a state with this table; what begins no step found nothing
-abbrev pub found_by : Event → Option StateTable → Option MoreFound
-found_by (event.Start at) table = Some found.Anything
-found_by (event.Prior at got) table = Some found.Anything
-found_by (event.Provided at number) table = Some found.Nothing
-found_by (event.Consumed at got) table = Some (found_where_taken table)
-found_by (event.Discarded at got) table = Some (found_where_taken table)
-found_by (event.FailedAt at why) table = Some (found_where_failed table)
-found_by other table = None
+abbrev pub found_by : Event → Bool → Option StateTable → Option MoreFound
+found_by (event.Start at) looked table = Some found.Anything
+found_by (event.Prior at got) looked table = Some found.Anything
+found_by (event.Provided at number) looked table = Some found.Nothing
+found_by (event.Consumed at got) looked table = Some (found_where_taken table)
+found_by (event.Discarded at got) looked table = Some (found_where_taken table)
+found_by (event.FailedAt at why) looked table = Some (found_where_failed looked table)
+found_by other looked table = None
 
 -- ---- all steps of a record
 
@@ -54,17 +54,16 @@ table_in process None = None
 table_in process (Some state) = table_of process state
 
 -- what each step found, from a state on
-abbrev pub found_in : Process → Option StateId → List Event → List MoreFound
-found_in process state [] = []
-found_in process state (one ∷ rest) =
-    option_to_list (found_by one (table_in process state))
-    ++ found_in process (state_after one state) rest
+abbrev pub found_in : Process → Bool → Option StateId → List Event → List MoreFound
+found_in process looked state [] = []
+found_in process looked state (one ∷ rest) =
+    option_to_list (found_by one looked (table_in process state))
+    ++ found_in process looked (state_after one state) rest
 
 -- the look of a step that found nothing more
 abbrev pub look_by : MoreFound → ℕ → ℕ → List Look
 look_by found.Anything step drawn = []
-look_by found.Nothing step drawn = record { step = step; drawn = drawn; sure = true } ∷ []
-look_by found.Unknown step drawn = record { step = step; drawn = drawn; sure = false } ∷ []
+look_by found.Nothing step drawn = record { step = step; drawn = drawn } ∷ []
 
 -- the looks of steps, of which the first has this number, where so many entries were drawn after each
 abbrev pub looks_in : ℕ → List MoreFound → List ℕ → List Look

@@ -1,5 +1,5 @@
 -- How far the history of a port is told.
-use Rattle.std.specs.Prelude.{◌==◌, ◌-◌, ◌+◌, ◌^◌, ℕ, nat_le, Bool, true, false, ◌&&◌, not, List, [], ◌∷◌, None, Option, Some, drop, if◌then◌else◌, min, slice_get, slice_index}
+use Rattle.std.specs.Prelude.{◌==◌, ◌-◌, ◌+◌, ◌^◌, ℕ, nat_le, Bool, true, false, List, [], ◌∷◌, None, Option, Some, drop, if◌then◌else◌, min, slice_get, slice_index}
 use Rattle.run_tracks.specs.ByNumber.{counted, with_at}
 use Rattle.run_tracks.specs.declared.looks.Look.{Look}
 use Rattle.run_tracks.specs.declared.port_track.TheConstants.{MOST_SENDERS}
@@ -57,14 +57,6 @@ is_step (Some look) step = look.step == step
 
 abbrev pub is_look : PortState → Bool
 is_look p = is_step (slice_get p.looks p.looked) p.steps
-
-abbrev pub unsure : Option Look → Bool
-unsure None = false
-unsure (Some look) = not look.sure
-
--- it hinders, but may be none
-abbrev pub is_released : PortState → Bool
-is_released p = unsure (slice_get p.looks p.looked) && is_hindered p
 
 abbrev pub next_look : PortState → PortState
 next_look p = record p { looked = min (p.looked + 1) (2 ^ 64 - 1) }

@@ -1,10 +1,10 @@
 -- All records and ports of a run.
-use Rattle.std.specs.Prelude.{◌≡◌, ◌==◌, ◌-◌, ◌<◌, ◌^◌, ℕ, zero, suc, nat_lt, Bool, true, false, ◌&&◌, not, List, None, Option, Some, drop, if◌then◌else◌, slice_get, slice_index, slice_set}
+use Rattle.std.specs.Prelude.{◌≡◌, ◌==◌, ◌-◌, ℕ, zero, suc, nat_lt, Bool, true, false, ◌&&◌, not, List, None, Option, Some, drop, if◌then◌else◌, slice_get, slice_index, slice_set}
 use Rattle.port_model.specs.declared.values.pid.Pid.{Pid}
 use Rattle.port_model.specs.declared.values.pid.Pid.TheVariants.{Null}
 use Rattle.run_record.specs.Record.{RecordValue}
 use Rattle.run_tracks.specs.ByNumber.{lowered}
-use Rattle.run_tracks.specs.PortTrack.{PortState, after_step, is_look, is_released, next_look, without_loss}
+use Rattle.run_tracks.specs.PortTrack.{PortState, after_step, is_look, without_loss}
 use Rattle.run_tracks.specs.RosterTurns.{IsTurn, TurnsState, after_turn, needed, with_wait}
 use Rattle.run_tracks.specs.Track.{IsTold, TrackState, is_closing}
 use Rattle.run_tracks.specs.Waiting.{WaitingList}
@@ -69,19 +69,6 @@ stepped number s = record s {
 abbrev pub is_look_at : Option PortState → Bool
 is_look_at None = false
 is_look_at (Some p) = is_look p
-
--- ---- looks that may be none
-
-abbrev pub is_released_at : Option PortState → Bool
-is_released_at None = false
-is_released_at (Some p) = is_released p
-
-abbrev pub AreUnreleased : List PortState → Type 0
-AreUnreleased ports = (number : ℕ) → number < 2 ^ 32 → is_released_at (at_number ports number) ≡ false
-
-abbrev pub released_at : Option ℕ → TracksState → TracksState
-released_at None s = s
-released_at (Some number) s = record s { ports = changed_at next_look s.ports number }
 
 -- ---- who lives
 

@@ -6,6 +6,7 @@
 #![tactic(auto)]
 
 mod by_number;
+mod laws;
 mod looks;
 mod port_track;
 mod roster_turns;
@@ -15,6 +16,7 @@ mod waiting;
 mod words;
 mod work_list;
 
+pub use laws::{nothing_is_chosen, stuck_has_no_order, two_are_apart};
 pub use port_track::PortTrack;
 pub use roster_turns::{RosterTurns, Turn};
 pub use track::Track;

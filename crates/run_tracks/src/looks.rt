@@ -10,12 +10,11 @@ use sdl_system::{Process, StateId, StateTable};
 use std::alloc::{AllocError, Global};
 
 /// A look of an owner at its port: how many steps it made before, and how many entries were drawn by then. No more are
-/// to be put before it. If it isn't `sure`, it may be none: a condition may have failed before it.
+/// to be put before it.
 #[derive(Clone, Copy)]
 pub struct Look {
     pub step: u32,
     pub drawn: u32,
-    pub sure: bool,
 }
 
 /// What a step found behind what its owner had drawn.
@@ -24,27 +23,27 @@ pub enum MoreFound {
     /// That makes no difference to it.
     Anything,
     Nothing,
-    /// Nothing, if it looked.
-    Unknown,
 }
 
 /// The looks of a record that found nothing, or no signal of a priority input where one would go first, in their order.
-/// So many entries were drawn after each of its steps.
+/// So many entries were drawn after each of its steps. If a condition fails where a state has both kinds of conditions,
+/// `looked` says whether the port was looked at before.
 pub fn looks_of(
     alloc: Global,
     process: &Process,
     trace: &Record,
+    looked: bool,
     drawn: &[u32],
 ) -> Result<Vec<Look>, AllocError>
     ensures { IfOk result (λ looks. looks.items
-        ≡ looks_in 0 (found_in process.now None trace.now.events) drawn.now) }
+        ≡ looks_in 0 (found_in process.now looked None trace.now.events) drawn.now) }
 {
     let mut looks = Vec::new(alloc);
     let mut state = None;
     let mut counts = drawn;
     let mut step = 0u32;
     for told in trace.reader() {
-        let found = found_by(told.entry, table_in(process, state));
+        let found = found_by(told.entry, looked, table_in(process, state));
         state = state_after(told.entry, state);
         let Some(found) = found else {
             continue;
@@ -68,12 +67,10 @@ fn add_look(
 ) -> Result<(), AllocError>
     ensures { OnOk result (looks.new.items ≡ looks.old.items ++ look_by found step drawn) }
 {
-    let sure = match found {
-        MoreFound::Anything => return Ok(()),
-        MoreFound::Nothing => true,
-        MoreFound::Unknown => false,
-    };
-    looks.push(Look { step, drawn, sure })?;
+    match found {
+        MoreFound::Anything => {}
+        MoreFound::Nothing => looks.push(Look { step, drawn })?,
+    }
     Ok(())
 }
 
@@ -96,14 +93,14 @@ fn state_after(entry: Entry, state: Option<StateId>) -> Option<StateId>
 
 /// What the step that an entry begins, in a state with this table, found behind what its owner had drawn. None: it
 /// begins no step.
-fn found_by(entry: Entry, table: Option<&StateTable>) -> Option<MoreFound>
-    ensures { (values : ValueList) → found_by (event_of entry values) (option_copied table.entry) ≡ result }
+fn found_by(entry: Entry, looked: bool, table: Option<&StateTable>) -> Option<MoreFound>
+    ensures { (values : ValueList) → found_by (event_of entry values) looked (option_copied table.entry) ≡ result }
 {
     match entry {
         Entry::Start { .. } | Entry::Prior { .. } => Some(MoreFound::Anything),
         Entry::Provided { .. } => Some(MoreFound::Nothing),
         Entry::Consumed { .. } | Entry::Discarded { .. } => Some(found_where_taken(table)),
-        Entry::FailedAt { .. } => Some(found_where_failed(table)),
+        Entry::FailedAt { .. } => Some(found_where_failed(looked, table)),
         _ => None,
     }
 }
@@ -122,14 +119,14 @@ fn found_where_taken(table: Option<&StateTable>) -> MoreFound
 }
 
 /// A condition fails. Those of continuous signals are asked only where nothing is found. The enabling ones are asked
-/// before, and no entry is looked for where one fails. If a state has both kinds, which of them failed isn't known.
-fn found_where_failed(table: Option<&StateTable>) -> MoreFound
-    ensures { result ≡ found_where_failed (option_copied table.entry) }
+/// before, and no entry is looked for where one fails. If a state has both kinds, `looked` says which of them failed.
+fn found_where_failed(looked: bool, table: Option<&StateTable>) -> MoreFound
+    ensures { result ≡ found_where_failed looked (option_copied table.entry) }
 {
     match table {
         Some(table) if table.continuous.is_empty() => MoreFound::Anything,
-        Some(table) if table.conditions.is_empty() => MoreFound::Nothing,
-        Some(_) => MoreFound::Unknown,
+        Some(table) if looked || table.conditions.is_empty() => MoreFound::Nothing,
+        Some(_) => MoreFound::Anything,
         None => MoreFound::Anything,
     }
 }

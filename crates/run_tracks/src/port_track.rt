@@ -2,7 +2,7 @@
 
 ghost use Rattle.std.specs.Prelude.{◌≡◌, ◌&&◌, [], IfOk, None, OnErr, OnOk, nat_lt, not, slice_index};
 ghost use Rattle.run_tracks.specs.Looks.{found_in, looks_in};
-ghost use Rattle.run_tracks.specs.PortTrack.{after_put, after_step, is_hindered, is_look, is_next, is_released, next_look, turn_in, with_known, with_loss, without_loss};
+ghost use Rattle.run_tracks.specs.PortTrack.{after_put, after_step, is_hindered, is_look, is_next, turn_in, with_known, with_loss, without_loss};
 
 use crate::by_number::{put_at, value_at};
 use crate::looks::{Look, looks_of};
@@ -51,18 +51,19 @@ impl<'r> Model for PortTrack<'r> {
 const MOST_SENDERS: u32 = 1_001;
 
 impl<'r> PortTrack<'r> {
-    /// The port of an instance, before anything is put.
+    /// The port of an instance, before anything is put. `looked` is what `looks_of` asks for.
     pub fn new(
         alloc: Global,
         process: &Process,
         trace: &Record,
+        looked: bool,
         words: Words<'r>,
     ) -> Result<Self, AllocError>
         ensures { IfOk result (λ port. port ≡ record {
           puts = words.entry.puts.now;
           told = 0;
           senders = [];
-          looks = looks_in 0 (found_in process.now None trace.now.events) words.entry.drawn.now;
+          looks = looks_in 0 (found_in process.now looked None trace.now.events) words.entry.drawn.now;
           looked = 0;
           steps = 0;
           lost = 0;
@@ -72,7 +73,7 @@ impl<'r> PortTrack<'r> {
             puts: words.puts,
             told: 0,
             senders: Vec::new(alloc),
-            looks: looks_of(alloc, process, trace, words.drawn)?,
+            looks: looks_of(alloc, process, trace, looked, words.drawn)?,
             looked: 0,
             steps: 0,
             lost: 0,
@@ -163,23 +164,6 @@ impl<'r> PortTrack<'r> {
         }
         self.steps = self.steps.saturating_add(1);
         is_look
-    }
-
-    /// Whether a look hinders the next put that may be none.
-    pub fn may_release(&self) -> bool
-        ensures { result ≡ is_released self.now }
-    {
-        match self.looks.get(self.looked) {
-            Some(look) => !look.sure && look.drawn <= self.told,
-            None => false,
-        }
-    }
-
-    /// Others may put before the next look.
-    pub fn release(&mut self)
-        ensures { self.new ≡ next_look self.old }
-    {
-        self.looked = self.looked.saturating_add(1);
     }
 
     /// One more signal is to be lost.

@@ -1,9 +1,9 @@
 //! All records and ports of a run, with their courses.
 
-ghost use Rattle.std.specs.Prelude.{◌≡◌, ◌↔◌, ◌+◌, ◌-◌, ◌<◌, ◌≤◌, ◌^◌, ◌&&◌, All, IfNone, IfOk, IfSome, IsTrue, MatchOption, OnErr, count_by, if◌then◌else◌, min, option_and_then, option_copied};
+ghost use Rattle.std.specs.Prelude.{◌≡◌, ◌↔◌, ◌+◌, ◌-◌, ◌<◌, ◌^◌, ◌&&◌, All, IfNone, IfOk, IfSome, IsTrue, MatchOption, OnErr, count_by, if◌then◌else◌, min, option_and_then, option_copied};
 ghost use Rattle.run_tracks.specs.PortTrack.{after_put, turn_in};
 ghost use Rattle.run_tracks.specs.RosterTurns.{IsOpenAfter};
-ghost use Rattle.run_tracks.specs.Tracks.{AreUnreleased, IsToldAt, IsTurnOf, at_number, changed_at, is_first, is_last, is_look_at, is_released_at, loses, not_losing, released_at, stepped, turned, waiting_for, with_waits, without};
+ghost use Rattle.run_tracks.specs.Tracks.{IsToldAt, IsTurnOf, at_number, changed_at, is_first, is_last, is_look_at, loses, not_losing, stepped, turned, waiting_for, with_waits, without};
 ghost use Rattle.run_tracks.specs.Waiting.{IsTakenBy};
 
 use crate::port_track::PortTrack;
@@ -40,11 +40,13 @@ impl<'r> Model for Tracks<'r> {
 }
 
 impl<'r> Tracks<'r> {
-    /// A run of which nothing is told. Where a record has no process or no words, it and those behind it have no track.
+    /// A run of which nothing is told. Where a record has no process or no words, it and those behind it have no track. Of
+    /// each record `looked` says whether the condition that fails it was evaluated behind a look at the port.
     pub fn new(
         alloc: Global,
         system: &System,
         report: &'r Report,
+        looked: &[bool],
         course: &'r Course,
     ) -> Result<Self, AllocError> {
         let records = report.records.as_slice();
@@ -58,7 +60,8 @@ impl<'r> Tracks<'r> {
             let Some(words) = words_of(course, place) else {
                 break;
             };
-            if !tracks.add(alloc, system, trace, words, records.len())? {
+            let looked = looked.get(place).copied().unwrap_or(true);
+            if !tracks.add(alloc, system, trace, looked, words, records.len())? {
                 break;
             }
         }
@@ -73,6 +76,7 @@ impl<'r> Tracks<'r> {
         alloc: Global,
         system: &System,
         trace: &'r Record,
+        looked: bool,
         words: Words<'r>,
         instances: usize,
     ) -> Result<bool, AllocError> {
@@ -84,7 +88,7 @@ impl<'r> Tracks<'r> {
             self.left = self.left.saturating_add(1);
         }
         self.records.push(track)?;
-        let port = PortTrack::new(alloc, process, trace, words)?;
+        let port = PortTrack::new(alloc, process, trace, looked, words)?;
         self.ports.push(port)?;
         self.add_looks(trace, words.versions)?;
         Ok(true)
@@ -281,53 +285,6 @@ impl<'r> Tracks<'r> {
         }
     }
 
-    /// Others may put into a port before a look that may be none. Its number; None: no such look is in their way.
-    pub fn release(&mut self) -> Option<u32>
-        ensures released { IfSome result (λ number. IsTrue (is_released_at (at_number self.old.ports number))) }
-        ensures after { self.new ≡ released_at result self.old }
-        ensures none { IfNone result (AreUnreleased self.old.ports) }
-    {
-        let number = self.first_released()?;
-        if let Some(place) = place_of(number)
-            && let Some(port) = self.ports.get_mut(place)
-        {
-            port.release();
-        }
-        Some(number)
-    }
-
-    /// Others may put into the port of a number before its next look, if that may be none and is in their way. Says
-    /// whether it is so.
-    pub fn release_at(&mut self, number: u32) -> bool
-        ensures released { result ≡ is_released_at (at_number self.old.ports number) }
-        ensures after { self.new ≡ (if result then released_at (Some number) self.old else self.old) }
-    {
-        let Some(place) = place_of(number) else {
-            return false;
-        };
-        let Some(port) = self.ports.get_mut(place) else {
-            return false;
-        };
-        if !port.may_release() {
-            return false;
-        }
-        port.release();
-        true
-    }
-
-    /// The first number of a port whose next look may be none, and hinders.
-    fn first_released(&self) -> Option<u32>
-        ensures released { IfSome result (λ number. IsTrue (is_released_at (at_number self.now.ports number))) }
-        ensures none { IfNone result (AreUnreleased self.now.ports) }
-    {
-        for (place, port) in self.ports.iter().enumerate() {
-            if port.may_release() {
-                return number_at(place);
-            }
-        }
-        None
-    }
-
     /// The instance whose turn it is to put into the port of a number, 0 for the environment. None: nothing more is
     /// put.
     pub fn turn(&self, number: u32) -> Option<u32>
@@ -394,15 +351,6 @@ fn place_of(number: u32) -> Option<usize>
 {
     let place = number.checked_sub(1)?;
     Some(place as usize)
-}
-
-/// The number of the instance at a place. None: there is none of so many bits.
-fn number_at(place: usize) -> Option<u32>
-    ensures some { IfSome result (λ number. number ≡ place + 1) }
-    ensures none { IfNone result (2 ^ 32 ≤ place + 1) }
-{
-    let place = u32::try_from(place).ok()?;
-    place.checked_add(1)
 }
 
 /// How many of these instances have no creator: with them the system begins.

@@ -1,5 +1,6 @@
 pub mod Came
 pub mod Ending
+pub mod FailedCondition
 pub mod Fails
 pub mod Known
 pub mod Part

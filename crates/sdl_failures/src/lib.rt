@@ -19,5 +19,5 @@ mod stop;
 mod tell;
 
 pub use located::Condition;
-pub use replayed::has_failed;
+pub use replayed::{ConditionKind, failed_condition, has_failed};
 pub use tell::{Told, failures_text};

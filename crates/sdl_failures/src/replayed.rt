@@ -9,6 +9,7 @@
 mod begin;
 mod cause;
 mod condition;
+mod condition_kind;
 mod create;
 mod ending;
 mod failing;
@@ -23,6 +24,7 @@ mod told;
 mod walk;
 
 pub use cause::later;
+pub use condition_kind::{ConditionKind, failed_condition};
 pub use ending::{failure_of, has_failed};
 pub use failing::{Failing, find_failure};
 pub use halt::Halt;

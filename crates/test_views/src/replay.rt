@@ -6,6 +6,8 @@
 #[cfg(test)]
 mod by_hand;
 #[cfg(test)]
+mod failures;
+#[cfg(test)]
 mod given;
 #[cfg(test)]
 mod kinds;

@@ -4,6 +4,7 @@ ghost use Rattle.std.specs.Prelude.{◌≡◌, ◌↔◌, IfOk, IsTrue, Some, fa
 ghost use Rattle.view_run.specs.Finder.{IsEndOf, IsStepAt, first_left, is_told, job_of, job_with};
 ghost use Rattle.run_tracks.specs.Tracks.{at_number};
 
+use crate::replay::looked::looked_before_failures;
 use port_model::{Course, Ticks};
 use run_order::{Answers, Chronicle, Ending, Move};
 use run_record::Report;
@@ -40,12 +41,13 @@ impl<'r, 's> Finder<'r, 's> {
         ensures { IfOk result (λ finder. job_of finder ≡ job_with system.now script.now.lines.items report.now) }
     {
         let numbers = u32::try_from(report.records.len()).unwrap_or(u32::MAX);
+        let looked = looked_before_failures(alloc, system, &report.records)?;
         Ok(Finder {
             alloc,
             report,
             chronicle: Chronicle::new(alloc, system, script)?,
             answers: Answers::new(alloc, &report.records, system.processes().len())?,
-            tracks: Tracks::new(alloc, system, report, course)?,
+            tracks: Tracks::new(alloc, system, report, &looked, course)?,
             work: WorkList::new(alloc, numbers)?,
             timed: WaitList::new(alloc),
             has_heard: false,
@@ -180,7 +182,7 @@ impl<'r, 's> Finder<'r, 's> {
         // none of its record. So nobody is asked before all is told of this time. Then the clock moved in the run, and all
         // rested.
         if self.is_somebody_behind() || !self.are_at_rest()? {
-            return self.release();
+            return Ok(false);
         }
         if !self.chronicle.tick() {
             return Ok(false);
@@ -189,39 +191,6 @@ impl<'r, 's> Finder<'r, 's> {
         self.do_environment()?;
         self.wake_timed()?;
         Ok(true)
-    }
-
-    /// Lets somebody put who is hindered by a look that may be none. False: nobody is.
-    fn release(&mut self) -> Result<bool, AllocError>
-        ensures { job_of self.new ≡ job_of self.old }
-    {
-        let released = match self.release_own() {
-            Some(number) => Some(number),
-            None => self.tracks.release(),
-        };
-        match released {
-            Some(number) => {
-                self.wake_turn(number)?;
-                Ok(true)
-            }
-            None => Ok(false),
-        }
-    }
-
-    /// Lets an instance put into its own port that is hindered by its own look: what it puts comes before that, so the look
-    /// is none. Its number; None: nobody is hindered so.
-    fn release_own(&mut self) -> Option<u32>
-        ensures { job_of self.new ≡ job_of self.old }
-    {
-        let mut behind = 0;
-        for _ in 0..u64::MAX {
-            let number = self.chronicle.replay().next_noted(behind)?;
-            if self.puts_to_itself(number) && self.tracks.release_at(number) {
-                return Some(number);
-            }
-            behind = number;
-        }
-        None
     }
 
     /// Whoever waits for this time goes on.

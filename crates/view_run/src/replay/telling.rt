@@ -88,19 +88,6 @@ impl<'r, 's> Finder<'r, 's> {
         }
     }
 
-    /// Whether the next event of an instance puts something into its own port.
-    pub fn puts_to_itself(&self, number: u32) -> bool {
-        let clock = self.chronicle.replay().clock();
-        let Some(pending) = self.chronicle.replay().next_of(number) else {
-            return false;
-        };
-        match next_kind(pending, clock) {
-            Next::Send { target, .. } => target == Target::Instance(number),
-            Next::Expire => true,
-            Next::Create(_) | Next::Full | Next::End | Next::Inside => false,
-        }
-    }
-
     /// Tells the next event.
     fn tell_one(&mut self, number: u32) -> Result<bool, AllocError>
         ensures { job_of self.new ≡ job_of self.old }
