@@ -1,10 +1,10 @@
 -- What two instances may do, they may do in either order.
-use Rattle.std.proofs.Common.{◌≡◌, ◌≢◌, ◌∙◌, ◌==◌, ◌+◌, ◌≤◌, ℕ, Bool, true, false, Contains, List, [], ◌∷◌, Option, None, Some, ap, arith, drop, if◌then◌else◌, inl, inr, refl, subst, sym}
+use Rattle.std.proofs.Common.{◌≡◌, ◌≢◌, ◌∙◌, ◌==◌, ◌+◌, ◌<◌, ◌≤◌, ◌⊎◌, ℕ, Bool, true, false, Contains, List, [], ◌∷◌, Option, None, Some, ap, arith, drop, get_or, if◌then◌else◌, inl, inr, refl, subst, sym}
 use Rattle.std.proofs.Math.Path.{fun_ext}
-use Rattle.std.proofs.lemmas.Bool.{cases_Bool, eqb-true}
+use Rattle.std.proofs.lemmas.Bool.{cases_Bool, cases_eq, eqb-true}
 use Rattle.std.proofs.lemmas.List.Elements.{Contains-append_left, Contains-append_right, Contains-push}
-use Rattle.run_tracks.specs.MoveLaws.{TwoAreApart}
-use Rattle.run_tracks.specs.Moves.{Act, Change, Inside, IsFirst, IsPermitted, IsPutBefore, Left, LookUp, Lose, MayGo, NobodyLooks, NothingIsLost, Put, Step, after_act, altered, changes_after, next_look, next_version, puts_after, there_after, told_after, version_after}
+use Rattle.run_tracks.specs.MoveLaws.{AreApart, TwoAreApart}
+use Rattle.run_tracks.specs.Moves.{Act, Brings, Change, Goes, Inside, IsFirst, IsPermitted, IsPutBefore, Left, LookUp, Lose, May, MayGo, MayPut, MayTick, Move, NobodyLooks, NothingIsLost, Put, Step, Ticks, WaitsFor, WaitsUntil, after, after_act, altered, changes_after, next_look, next_version, puts_after, there_after, told_after, version_after}
 
 -- ---- what is so of each number
 
@@ -92,7 +92,6 @@ same_left l number one later other another rest apart =
       changes = changes_same one another l.changes i;
       version = version_same one another l.version i;
       clock = l.clock;
-      rounds = l.rounds;
     }
 
 -- ---- what only grows, or only gets less
@@ -289,19 +288,201 @@ permitted_after l number one later other (Lose receiver) rest apart may also =
     lose_stays l one number may.permitted other rest receiver also
 permitted_after l number one later other Inside rest apart may also = tt
 
-pub may_after : (l : Left) (number : ℕ) (one : Act) (later : List Act) (other : ℕ) (another : Act) (rest : List Act)
+may_after : (l : Left) (number : ℕ) (one : Act) (later : List Act) (other : ℕ) (another : Act) (rest : List Act)
     → number ≢ other → MayGo l number one later → MayGo l other another rest
     → MayGo (after_act l number one later) other another rest
 may_after l number one later other another rest apart may also = record {
+  positive = also.positive;
   next = altered_other number (λ (all : List Act). later) l.acts other (is_other other number (λ is. apart (sym is)))
       ∙ also.next;
   is_there = there_stays one l.is_there other also.is_there;
   permitted = permitted_after l number one later other another rest apart may also;
 }
 
-pub two_are_apart : TwoAreApart
-two_are_apart = λ l number one later other another rest apart may also. record {
-  first = may_after l other another rest number one later (λ is. apart (sym is)) also may;
-  second = may_after l number one later other another rest apart may also;
-  same = same_left l number one later other another rest apart;
+-- ---- the environment
+
+not_first : (number : ℕ) → 0 < number → 0 ≢ number
+not_first number positive = λ is. omega (arith, positive, is)
+
+-- one puts after another
+put_after : (l : Left) (brought : ℕ) (number receiver : ℕ) → 0 ≢ number ⊎ receiver ≢ brought → MayPut l 0 brought
+    → MayPut l number receiver → MayPut (after l (Brings brought)) number receiver
+put_after l brought number receiver apart may put =
+    elim (cases_Bool (receiver == brought)) [
+      | inl here ↦
+          let is = eqb-true receiver brought here in
+          let mine : IsFirst 0 (l.puts receiver) = subst (λ n. IsFirst 0 (l.puts n)) (sym is) may.1 in
+          elim apart [
+            | inl other ↦ absurd (other (one_first (l.puts receiver) 0 number mine put.1))
+            | inr elsewhere ↦ absurd (elsewhere is)
+          ]
+      | inr elsewhere ↦ (
+          put.0,
+          subst (λ (all : List ℕ). IsFirst number all)
+          (sym (altered_other brought (λ (all : List ℕ). drop 1 all) l.puts receiver elsewhere)) put.1,
+          subst (λ count. IsPutBefore count (next_look (l.acts receiver)))
+          (sym (altered_other brought (λ (count : ℕ). count + 1) l.told receiver elsewhere)) put.2)
+    ]
+
+permitted_then : (l : Left) (brought number : ℕ) (one : Act) → 0 < number → MayPut l 0 brought
+    → IsPermitted l number one → IsPermitted (after l (Brings brought)) number one
+permitted_then l brought number (Step at drawn looked) positive may is =
+    let grows = told_grows (Put brought) l.told number in
+    let enough = is.1 in
+    (is.0, omega (arith, enough, grows))
+permitted_then l brought number (LookUp version) positive may is = is
+permitted_then l brought number (Change None) positive may is = is
+permitted_then l brought number (Change (Some made)) positive may is = is
+permitted_then l brought number (Put receiver) positive may is =
+    put_after l brought number receiver (inl (not_first number positive)) may is
+permitted_then l brought number (Lose receiver) positive may is = is
+permitted_then l brought number Inside positive may is = tt
+
+goes_then : (l : Left) (brought number : ℕ) (one : Act) (later : List Act) → MayPut l 0 brought
+    → MayGo l number one later → MayGo (after l (Brings brought)) number one later
+goes_then l brought number one later may also = record {
+  positive = also.positive;
+  next = also.next;
+  is_there = also.is_there;
+  permitted = permitted_then l brought number one also.positive may also.permitted;
 }
+
+brings_then : (l : Left) (number : ℕ) (one : Act) (later : List Act) (brought : ℕ) → MayGo l number one later
+    → MayPut l 0 brought → MayPut (after_act l number one later) 0 brought
+brings_then l number one later brought may also =
+    put_stays l one number later may.next may.permitted 0 brought (λ is. not_first number may.positive (sym is)) also
+
+same_brought : (l : Left) (number : ℕ) (one : Act) (later : List Act) (brought : ℕ)
+    → after (after_act l number one later) (Brings brought)
+    ≡ after_act (after l (Brings brought)) number one later
+same_brought l number one later brought = λ i. record {
+  acts = altered number (λ (all : List Act). later) l.acts;
+  puts = puts_same one (Put brought) l.puts i;
+  told = told_same one (Put brought) l.told i;
+  is_there = there_after one l.is_there;
+  changes = changes_after one l.changes;
+  version = version_after one l.version;
+  clock = l.clock;
+}
+
+goes_and_brings : (l : Left) (number : ℕ) (one : Act) (later : List Act) (brought : ℕ) → MayGo l number one later
+    → MayPut l 0 brought → AreApart l (Goes number one later) (Brings brought)
+goes_and_brings l number one later brought may also = record {
+  first = goes_then l brought number one later also may;
+  second = brings_then l number one later brought may also;
+  same = same_brought l number one later brought;
+}
+
+both_brought : (l : Left) (one other : ℕ) → MayPut l 0 one → MayPut l 0 other
+    → (after l (Brings one) ≡ after l (Brings other)) ⊎ AreApart l (Brings one) (Brings other)
+both_brought l one other may also =
+    elim (cases_eq one other) [
+      | inl is ↦ inl (ap (λ n. after l (Brings n)) is)
+      | inr apart ↦ inr (record {
+          first = put_after l other 0 one (inr apart) also may;
+          second = put_after l one 0 other (inr (λ is. apart (sym is))) may also;
+          same = λ i. record {
+            acts = l.acts;
+            puts = puts_same (Put one) (Put other) l.puts i;
+            told = told_same (Put one) (Put other) l.told i;
+            is_there = l.is_there;
+            changes = l.changes;
+            version = l.version;
+            clock = l.clock;
+          };
+        })
+    ]
+
+-- ---- the clock
+
+-- whoever may go on doesn't wait for a later time
+no_wait : (l : Left) (number : ℕ) (one : Act) (later : List Act) (time : ℕ) → l.clock < time → IsPermitted l number one
+    → WaitsUntil time (one ∷ later) → ⊥
+no_wait l number (Step at drawn looked) later time behind may waits =
+    let now = may.0 in
+    omega (arith, behind, now, waits)
+no_wait l number (LookUp version) later time behind may waits = waits
+no_wait l number (Change made) later time behind may waits = waits
+no_wait l number (Put receiver) later time behind may waits = waits
+no_wait l number (Lose receiver) later time behind may waits = waits
+no_wait l number Inside later time behind may waits = waits
+
+no_tick : (l : Left) (number : ℕ) (one : Act) (later : List Act) (time : ℕ) → MayGo l number one later
+    → MayTick l time → ⊥
+no_tick l number one later time may tick =
+    no_wait l number one later time tick.later may.permitted
+    (subst (λ (all : List Act). WaitsUntil time all) may.next (tick.all number))
+
+not_before : (one other : ℕ) (acts : List Act) → WaitsFor one acts → WaitsUntil other acts → other ≤ one
+not_before one other [] first second = absurd first
+not_before one other (Step at drawn looked ∷ later) first second = omega (arith, first, second)
+not_before one other (LookUp version ∷ later) first second = absurd first
+not_before one other (Change made ∷ later) first second = absurd first
+not_before one other (Put receiver ∷ later) first second = absurd first
+not_before one other (Lose receiver ∷ later) first second = absurd first
+not_before one other (Inside ∷ later) first second = absurd first
+
+same_tick : (l : Left) (one other : ℕ) → MayTick l one → MayTick l other → one ≡ other
+same_tick l one other may also =
+    let below = not_before one other (l.acts may.somebody.0) may.somebody.1 (also.all may.somebody.0) in
+    let above = not_before other one (l.acts also.somebody.0) also.somebody.1 (may.all also.somebody.0) in
+    omega (arith, below, above)
+
+ticks_then : (l : Left) (brought time : ℕ) → MayTick l time → MayTick (after l (Brings brought)) time
+ticks_then l brought time may = record { later = may.later; all = may.all; somebody = may.somebody }
+
+-- ---- any two
+
+-- an instance does what comes next of it
+same_act : (l : Left) (number : ℕ) (one another : Act) (later rest : List Act) → MayGo l number one later
+    → MayGo l number another rest → after_act l number one later ≡ after_act l number another rest
+same_act l number one another later rest may also =
+    let same : one ∷ later ≡ another ∷ rest = sym may.next ∙ also.next in
+    ap (λ (what : Act). after_act l number what later) (ap (λ (all : List Act). get_or all 0 one) same)
+    ∙ ap (λ (all : List Act). after_act l number another all) (ap (λ (all : List Act). drop 1 all) same)
+
+two_go : (l : Left) (number : ℕ) (one : Act) (later : List Act) (other : ℕ) (another : Act) (rest : List Act)
+    → MayGo l number one later → MayGo l other another rest
+    → (after_act l number one later ≡ after_act l other another rest)
+    ⊎ AreApart l (Goes number one later) (Goes other another rest)
+two_go l number one later other another rest may also =
+    elim (cases_eq number other) [
+      | inl is ↦
+          let mine : MayGo l other one later = subst (λ n. MayGo l n one later) is may in
+          inl (ap (λ n. after_act l n one later) is ∙ same_act l other one another later rest mine also)
+      | inr apart ↦ inr (record {
+          first = may_after l other another rest number one later (λ is. apart (sym is)) also may;
+          second = may_after l number one later other another rest apart may also;
+          same = same_left l number one later other another rest apart;
+        })
+    ]
+
+turned : (l : Left) (one other : Move) → AreApart l one other → AreApart l other one
+turned l one other both = record { first = both.second; second = both.first; same = sym both.same }
+
+tick_and_bring : (l : Left) (time brought : ℕ) → MayTick l time → MayPut l 0 brought
+    → AreApart l (Ticks time) (Brings brought)
+tick_and_bring l time brought may also = record {
+  first = ticks_then l brought time may;
+  second = also;
+  same = refl;
+}
+
+any_two : (l : Left) (one other : Move) → May l one → May l other
+    → (after l one ≡ after l other) ⊎ AreApart l one other
+any_two l (Goes number one later) (Goes other another rest) may also =
+    two_go l number one later other another rest may also
+any_two l (Goes number one later) (Brings brought) may also =
+    inr (goes_and_brings l number one later brought may also)
+any_two l (Goes number one later) (Ticks time) may also = absurd (no_tick l number one later time may also)
+any_two l (Brings brought) (Goes number one later) may also =
+    inr (turned l (Goes number one later) (Brings brought) (goes_and_brings l number one later brought also may))
+any_two l (Brings one) (Brings other) may also = both_brought l one other may also
+any_two l (Brings brought) (Ticks time) may also =
+    inr (turned l (Ticks time) (Brings brought) (tick_and_bring l time brought also may))
+any_two l (Ticks time) (Goes number one later) may also = absurd (no_tick l number one later time also may)
+any_two l (Ticks time) (Brings brought) may also = inr (tick_and_bring l time brought may also)
+any_two l (Ticks one) (Ticks other) may also = inl (ap (λ time. after l (Ticks time)) (same_tick l one other may also))
+
+pub two_are_apart : TwoAreApart
+two_are_apart = any_two

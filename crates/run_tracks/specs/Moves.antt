@@ -15,14 +15,9 @@ pub data Act : Type 0 where
   Lose : (receiver : ℕ) → Act
   Inside : Act
 
--- what the environment does at a time: it puts into the ports of these numbers, one after the other
-pub record Round : Type 0 where
-  pub time : ℕ
-  pub puts : List ℕ
-
--- What is left of a run. By the number of an instance: what it does, who puts into its port, each in their order, and
--- how much is put; and whether it is there. Who changes who lives, in their order, and how many changes are told. The
--- clock, and what the environment does.
+-- What is left of a run. By the number of an instance, from 1 on: what it does, and who puts into its port, 0 for the
+-- environment, each in their order; how much is put; and whether it is there. Who changes who lives, in their order, and
+-- how many changes are told. The clock.
 pub record Left : Type 0 where
   pub acts : ℕ → List Act
   pub puts : ℕ → List ℕ
@@ -31,11 +26,17 @@ pub record Left : Type 0 where
   pub changes : List ℕ
   pub version : ℕ
   pub clock : ℕ
-  pub rounds : List Round
 
 -- what is so of each number, changed in this way for one of them
 abbrev pub altered : {X : Type 0} → ℕ → (X → X) → (ℕ → X) → ℕ → X
 altered number change all other = if other == number then change (all other) else all other
+
+-- An instance does this next, and these are left; the environment puts into the port of a number; or the clock moves to
+-- a time.
+pub data Move : Type 0 where
+  Goes : (number : ℕ) (one : Act) (later : List Act) → Move
+  Brings : (receiver : ℕ) → Move
+  Ticks : (time : ℕ) → Move
 
 -- ---- when it may be told
 
@@ -55,6 +56,13 @@ abbrev pub IsPutBefore : ℕ → Option ℕ → Type 0
 IsPutBefore told None = Unit {0}
 IsPutBefore told (Some drawn) = told < drawn
 
+-- Whoever has this number puts in its turn, if the receiver is there, and before its next look only as far as that had
+-- drawn.
+abbrev pub MayPut : Left → ℕ → ℕ → Type 0
+MayPut l number receiver =
+    (l.is_there receiver ≡ true) × IsFirst number (l.puts receiver)
+    × IsPutBefore (l.told receiver) (next_look (l.acts receiver))
+
 -- the next look-up before any change: after how many changes it is
 abbrev pub next_version : List Act → Option ℕ
 next_version [] = None
@@ -73,34 +81,43 @@ NothingIsLost l (Some made) = (number : ℕ) → Contains (l.acts number) (Lose 
 
 -- A step is made in its time, once all is put that its owner had drawn after it. A look-up comes where as many changes
 -- are told as it saw. A change comes in its turn, behind the look-ups of who lived before it; and a create behind what is
--- lost. A put comes in its turn, if its receiver is there, and before the next look only as far as that had drawn.
+-- lost.
 abbrev pub IsPermitted : Left → ℕ → Act → Type 0
 IsPermitted l number (Step at drawn looked) = (at ≡ l.clock) × (drawn ≤ l.told number)
 IsPermitted l number (LookUp version) = version ≡ l.version
 IsPermitted l number (Change made) = IsFirst number l.changes × NobodyLooks l × NothingIsLost l made
-IsPermitted l number (Put receiver) =
-    (l.is_there receiver ≡ true) × IsFirst number (l.puts receiver)
-    × IsPutBefore (l.told receiver) (next_look (l.acts receiver))
+IsPermitted l number (Put receiver) = MayPut l number receiver
 IsPermitted l number (Lose receiver) = l.is_there receiver ≡ false
 IsPermitted l number Inside = Unit {0}
 
 -- The instance of this number is there, and does this next, and it is permitted.
 pub record MayGo (l : Left) (number : ℕ) (one : Act) (later : List Act) : Type 0 where
+  pub positive : 0 < number
   pub next : l.acts number ≡ one ∷ later
   pub is_there : l.is_there number ≡ true
   pub permitted : IsPermitted l number one
 
--- nothing is left but steps at this time, or later
+-- nothing is left, or a step at this time or later comes next
 abbrev pub WaitsUntil : ℕ → List Act → Type 0
 WaitsUntil time [] = Unit {0}
 WaitsUntil time (Step at drawn looked ∷ later) = time ≤ at
 WaitsUntil time (other ∷ later) = ⊥
 
--- The environment does this next. Each step is told to its end, none before that time is left, and nobody may go on.
-pub record MayHear (l : Left) (round : Round) (later : List Round) : Type 0 where
-  pub next : l.rounds ≡ round ∷ later
-  pub waits : (number : ℕ) → WaitsUntil round.time (l.acts number)
-  pub nobody : (number : ℕ) (one : Act) (rest : List Act) → MayGo l number one rest → ⊥
+-- a step at this time comes next
+abbrev pub WaitsFor : ℕ → List Act → Type 0
+WaitsFor time (Step at drawn looked ∷ later) = at ≡ time
+WaitsFor time other = ⊥
+
+-- The clock moves to the next time at which somebody makes a step, once all before it is told.
+pub record MayTick (l : Left) (time : ℕ) : Type 0 where
+  pub later : l.clock < time
+  pub all : (number : ℕ) → WaitsUntil time (l.acts number)
+  pub somebody : (number : ℕ) × WaitsFor time (l.acts number)
+
+abbrev pub May : Left → Move → Type 0
+May l (Goes number one later) = MayGo l number one later
+May l (Brings receiver) = MayPut l 0 receiver
+May l (Ticks time) = MayTick l time
 
 -- ---- what is left then
 
@@ -134,22 +151,12 @@ after_act l number one later = record {
   changes = changes_after one l.changes;
   version = version_after one l.version;
   clock = l.clock;
-  rounds = l.rounds;
 }
 
--- the environment put into all these ports
-abbrev pub all_taken : List ℕ → (ℕ → List ℕ) → ℕ → List ℕ
-all_taken [] puts = puts
-all_taken (receiver ∷ rest) puts = all_taken rest (altered receiver (λ (all : List ℕ). drop 1 all) puts)
-
-abbrev pub all_put : List ℕ → (ℕ → ℕ) → ℕ → ℕ
-all_put [] told = told
-all_put (receiver ∷ rest) told = all_put rest (altered receiver (λ (count : ℕ). count + 1) told)
-
-abbrev pub after_round : Left → Round → List Round → Left
-after_round l round later = record l {
-  puts = all_taken round.puts l.puts;
-  told = all_put round.puts l.told;
-  clock = round.time;
-  rounds = later;
+abbrev pub after : Left → Move → Left
+after l (Goes number one later) = after_act l number one later
+after l (Brings receiver) = record l {
+  puts = puts_after (Put receiver) l.puts;
+  told = told_after (Put receiver) l.told;
 }
+after l (Ticks time) = record l { clock = time }
