@@ -2,7 +2,7 @@
 
 ghost use Rattle.run_tracks.specs.MoveLaws.{NothingIsChosen, StuckHasNoOrder, TwoAreApart};
 
-/// What two instances may do, they may do in either order, and the same is left.
+/// Of two things that may be told next each may be told after the other, and the same is left.
 pub fn two_are_apart()
     ensures { TwoAreApart }
 {}
