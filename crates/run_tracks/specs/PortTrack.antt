@@ -1,5 +1,5 @@
 -- How far the history of a port is told.
-use Rattle.std.specs.Prelude.{◌==◌, ◌-◌, ◌+◌, ◌^◌, ℕ, nat_le, Bool, true, false, List, [], ◌∷◌, None, Option, Some, drop, if◌then◌else◌, min, slice_get, slice_index}
+use Rattle.std.specs.Prelude.{◌==◌, ◌-◌, ◌+◌, ◌^◌, ℕ, nat_le, Bool, false, List, [], ◌∷◌, None, Option, Some, drop, if◌then◌else◌, min, slice_get, slice_index}
 use Rattle.run_tracks.specs.ByNumber.{counted, with_at}
 use Rattle.run_tracks.specs.declared.looks.Look.{Look}
 use Rattle.run_tracks.specs.declared.port_track.TheConstants.{MOST_SENDERS}
@@ -30,11 +30,13 @@ instance_first (next ∷ later) senders = Some (slice_index senders next)
 abbrev pub turn_in : PortState → Option ℕ
 turn_in p = instance_first p.puts p.senders
 
--- the next put is one of the sender of this number, or nothing is known of it
-abbrev pub is_next : List ℕ → Option ℕ → Bool
-is_next [] number = true
-is_next (next ∷ later) (Some number) = next == number
-is_next (next ∷ later) None = false
+-- it is the turn of the instance of this number
+abbrev pub is_turn_of : ℕ → Option ℕ → Bool
+is_turn_of number None = false
+is_turn_of number (Some next) = next == number
+
+abbrev pub is_turn : ℕ → PortState → Bool
+is_turn number p = is_turn_of number (turn_in p)
 
 abbrev pub after_put : PortState → PortState
 after_put p = record p { puts = drop 1 p.puts; told = counted p.told }

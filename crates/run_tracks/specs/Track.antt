@@ -1,23 +1,19 @@
 -- How far a record is told.
-use Rattle.std.specs.Prelude.{◌≡◌, ◌==◌, ℕ, nat_le, Bool, true, false, List, [], ◌∷◌, None, Option, Some, if◌then◌else◌, slice_index}
+use Rattle.std.specs.Prelude.{◌≡◌, ℕ, Bool, true, false, List, [], ◌∷◌, None, Option, Some}
 use Rattle.port_model.specs.declared.values.value.Value.{Value}
-use Rattle.port_model.specs.declared.course.course.SenderInto.{SenderInto}
 use Rattle.run_record.specs.Entry.{event_of}
 use Rattle.run_record.specs.Event.{Event}
 use Rattle.run_record.specs.declared.entry.Entry.{Entry}
 use Rattle.run_record.specs.declared.entry.Entry.TheVariants as entry
-use Rattle.run_tracks.specs.ByNumber.{with_at}
 
 -- The next event that isn't told, without its values, and those after it. For each step that isn't told, how many
 -- entries were drawn after it; and the versions of the roster that are still to be seen or made. By the number of an
--- instance, under which number this one puts into its port, if that isn't 0; and how many signals to it are still to
--- be lost.
+-- instance, how many signals to it are still to be lost.
 pub record TrackState : Type 0 where
   pub next : Option Entry
   pub later : List Event
   pub drawn : List ℕ
   pub versions : List ℕ
-  pub senders : List ℕ
   pub lost : List ℕ
 
 -- ---- its events
@@ -58,14 +54,3 @@ time_of (Some (entry.Discarded at got)) = Some at
 time_of (Some (entry.Provided at number)) = Some at
 time_of (Some (entry.FailedAt at why)) = Some at
 time_of other = None
-
--- ---- where it puts
-
--- a sender into the port of one of so many instances
-abbrev pub with_sender : ℕ → List ℕ → SenderInto → List ℕ
-with_sender instances numbers sender =
-    if nat_le sender.port instances then with_at numbers sender.port sender.number else numbers
-
--- under which number it puts into a port
-abbrev pub number_in : List ℕ → ℕ → Option ℕ
-number_in senders port = if slice_index senders port == 0 then None else Some (slice_index senders port)

@@ -2,7 +2,7 @@
 
 ghost use Rattle.std.specs.Prelude.{◌≡◌, ◌&&◌, [], IfOk, None, OnErr, OnOk, nat_lt, not, slice_index};
 ghost use Rattle.run_tracks.specs.Looks.{found_in, looks_in};
-ghost use Rattle.run_tracks.specs.PortTrack.{after_put, after_step, is_hindered, is_look, is_next, turn_in, with_known, with_loss, without_loss};
+ghost use Rattle.run_tracks.specs.PortTrack.{after_put, after_step, is_hindered, is_look, is_turn, turn_in, with_known, with_loss, without_loss};
 
 use crate::by_number::{put_at, value_at};
 use crate::looks::{Look, looks_of};
@@ -122,12 +122,21 @@ impl<'r> PortTrack<'r> {
         self.told
     }
 
-    /// Whether the sender of this number may put now: no look comes before, and it is the next one. None: it has no
-    /// number here.
-    pub fn may_put(&self, number: Option<u32>) -> bool
-        ensures { result ≡ (not (is_hindered self.now) && is_next self.now.puts number) }
+    /// Whether the instance of this number may put now: no look comes before, and it is its turn.
+    pub fn may_put(&self, number: u32) -> bool
+        ensures { result ≡ (not (is_hindered self.now) && is_turn number self.now) }
     {
-        !self.is_hindered() && is_next(self.puts, number)
+        !self.is_hindered() && self.is_turn(number)
+    }
+
+    /// Whether the next put is one of the instance of this number.
+    fn is_turn(&self, number: u32) -> bool
+        ensures { result ≡ is_turn number self.now }
+    {
+        match self.turn() {
+            Some(next) => next == number,
+            None => false,
+        }
     }
 
     /// Whether a look has to come before the next put.
@@ -185,16 +194,5 @@ impl<'r> PortTrack<'r> {
         ensures { result ≡ nat_lt 0 self.now.lost }
     {
         self.lost > 0
-    }
-}
-
-/// Whether the next of these puts is one of a sender, or there is none. None: the sender has no number.
-fn is_next(puts: &[u32], number: Option<u32>) -> bool
-    ensures { result ≡ is_next puts.now number }
-{
-    match (puts.first(), number) {
-        (None, _) => true,
-        (Some(next), Some(number)) => *next == number,
-        (Some(_), None) => false,
     }
 }

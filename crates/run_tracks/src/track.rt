@@ -1,12 +1,12 @@
 //! How far a record is told.
 
-ghost use Rattle.std.specs.Prelude.{◌≡◌, ◌&&◌, [], IfOk, OnErr, OnOk, drop, fold, nat_lt, not, slice_get, slice_index};
+ghost use Rattle.std.specs.Prelude.{◌≡◌, ◌&&◌, [], OnErr, OnOk, drop, nat_lt, not, slice_get, slice_index};
 ghost use Rattle.run_tracks.specs.ByNumber.{lowered, raised};
-ghost use Rattle.run_tracks.specs.Track.{AreLeft, IsTold, is_closing, number_in, time_of, with_next, with_sender};
+ghost use Rattle.run_tracks.specs.Track.{AreLeft, IsTold, is_closing, time_of, with_next};
 
-use crate::by_number::{lower, put_at, raise, value_at};
+use crate::by_number::{lower, raise, value_at};
 use crate::words::Words;
-use port_model::{SenderInto, Ticks};
+use port_model::Ticks;
 use run_record::{Entry, Reader, Record};
 use std::alloc::{AllocError, Global};
 use std::marker::Model;
@@ -22,8 +22,6 @@ pub struct Track<'r> {
     drawn: &'r [u32],
     /// The versions of the roster that its events are still to see or make.
     versions: &'r [u32],
-    /// By the number of an instance, the number that this one has among the senders into its port. 0: it is none.
-    senders: Vec<u32>,
     /// By the number of an instance, how many of the signals to it are lost, since it isn't there yet.
     lost: Vec<u32>,
 }
@@ -38,46 +36,27 @@ impl<'r> Model for Track<'r> {
       later = t.events;
       drawn = t.drawn.now;
       versions = t.versions.now;
-      senders = t.senders.items;
       lost = t.lost.items;
     } };
 }
 
 impl<'r> Track<'r> {
-    /// A record of a run of so many instances, of which nothing is told.
-    pub fn new(
-        alloc: Global,
-        trace: &'r Record,
-        words: Words<'r>,
-        instances: usize,
-    ) -> Result<Self, AllocError>
-        ensures events { IfOk result (AreLeft trace.now.events) }
-        ensures drawn { IfOk result (λ track. track.drawn ≡ words.entry.drawn.now) }
-        ensures versions { IfOk result (λ track. track.versions ≡ words.entry.versions.now) }
-        ensures senders { IfOk result (λ track. track.senders
-            ≡ fold (with_sender instances) [] words.entry.senders.now) }
-        ensures lost { IfOk result (λ track. track.lost ≡ []) }
+    /// A record of which nothing is told.
+    pub fn new(alloc: Global, trace: &'r Record, words: Words<'r>) -> Self
+        ensures events { AreLeft trace.now.events result }
+        ensures drawn { result.drawn ≡ words.entry.drawn.now }
+        ensures versions { result.versions ≡ words.entry.versions.now }
+        ensures lost { result.lost ≡ [] }
     {
         let mut track = Track {
             next: None,
             events: trace.reader(),
             drawn: words.drawn,
             versions: words.versions,
-            senders: numbers_of(alloc, words.senders, instances)?,
             lost: Vec::new(alloc),
         };
         track.pass_event();
-        Ok(track)
-    }
-
-    /// The number that this one has among the senders into a port, if it is one of them.
-    pub fn sender_into(&self, number: u32) -> Option<u32>
-        ensures { result ≡ number_in self.now.senders number }
-    {
-        match value_at(&self.senders, number) {
-            0 => None,
-            sender => Some(sender),
-        }
+        track
     }
 
     /// One more signal to this instance is to be lost. For lack of memory nothing changes.
@@ -198,33 +177,4 @@ fn rest_of(words: &[u32]) -> &[u32]
         Some((_, rest)) => rest,
         None => words,
     }
-}
-
-/// By the number of an instance, the number that a sender has in its port, of so many instances.
-fn numbers_of(
-    alloc: Global,
-    senders: &[SenderInto],
-    instances: usize,
-) -> Result<Vec<u32>, AllocError>
-    ensures { IfOk result (λ numbers. numbers.items ≡ fold (with_sender instances) [] senders.now) }
-{
-    let mut numbers = Vec::new(alloc);
-    for sender in senders {
-        add_sender(&mut numbers, *sender, instances)?;
-    }
-    Ok(numbers)
-}
-
-/// What names no instance is left out.
-fn add_sender(
-    numbers: &mut Vec<u32>,
-    sender: SenderInto,
-    instances: usize,
-) -> Result<(), AllocError>
-    ensures { OnOk result (numbers.new.items ≡ with_sender instances numbers.old.items sender) }
-{
-    if sender.port as usize > instances {
-        return Ok(());
-    }
-    put_at(numbers, sender.port, sender.number)
 }

@@ -61,7 +61,7 @@ impl<'r> Tracks<'r> {
                 break;
             };
             let looked = looked.get(place).copied().unwrap_or(true);
-            if !tracks.add(alloc, system, trace, looked, words, records.len())? {
+            if !tracks.add(alloc, system, trace, looked, words)? {
                 break;
             }
         }
@@ -70,7 +70,7 @@ impl<'r> Tracks<'r> {
         Ok(tracks)
     }
 
-    /// The record and the port of the next number, of so many instances in all. False: there is no such process.
+    /// The record and the port of the next number. False: there is no such process.
     fn add(
         &mut self,
         alloc: Global,
@@ -78,12 +78,11 @@ impl<'r> Tracks<'r> {
         trace: &'r Record,
         looked: bool,
         words: Words<'r>,
-        instances: usize,
     ) -> Result<bool, AllocError> {
         let Some(process) = system.process(trace.process()) else {
             return Ok(false);
         };
-        let track = Track::new(alloc, trace, words, instances)?;
+        let track = Track::new(alloc, trace, words);
         if !track.is_told() {
             self.left = self.left.saturating_add(1);
         }

@@ -8,8 +8,7 @@ use Rattle.view_run.specs.declared.replay.telling.Access.{Access}
 use Rattle.view_run.specs.declared.replay.telling.Access.TheVariants as access
 use Rattle.view_run.specs.declared.replay.telling.Next.{Next}
 use Rattle.view_run.specs.declared.replay.telling.Next.TheVariants as next
-use Rattle.run_tracks.specs.PortTrack.{PortState, is_hindered, is_next}
-use Rattle.run_tracks.specs.Track.{TrackState, number_in}
+use Rattle.run_tracks.specs.PortTrack.{PortState, is_hindered, is_turn}
 use Rattle.run_tracks.specs.Tracks.{TracksState, at_number, loses}
 use Rattle.sdl_system.specs.declared.route.Dest.{Dest}
 use Rattle.sdl_system.specs.declared.route.Dest.TheVariants as to
@@ -32,12 +31,12 @@ next_kind pending.Inside clock = next.Inside
 -- ---- what puts
 
 -- it is the turn of the instance of this number in the port of a receiver
-abbrev pub puts_by : Option TrackState → Option PortState → ℕ → Bool
-puts_by (Some t) (Some p) receiver = not (is_hindered p) && is_next p.puts (number_in t.senders receiver)
-puts_by t p receiver = false
+abbrev pub puts_by : ℕ → Option PortState → Bool
+puts_by number None = false
+puts_by number (Some p) = not (is_hindered p) && is_turn number p
 
 abbrev pub may_put : TracksState → ℕ → ℕ → Bool
-may_put s number receiver = puts_by (at_number s.records number) (at_number s.ports receiver) receiver
+may_put s number receiver = puts_by number (at_number s.ports receiver)
 
 -- Where the receiver is there, it is the sender's turn, or another's. Where it isn't, the signal is to be lost, or
 -- comes later. What goes to nobody, or is of nobody who has a record, goes into no port.

@@ -167,7 +167,7 @@ impl<'r, 's> Finder<'r, 's> {
             return Access::Free;
         };
         if self.chronicle.replay().is_there(receiver) {
-            return if port.may_put(track.sender_into(receiver)) {
+            return if port.may_put(number) {
                 Access::Turn(receiver)
             } else {
                 Access::Hindered
