@@ -317,11 +317,12 @@ put_after l brought number receiver apart may put =
             | inr elsewhere ↦ absurd (elsewhere is)
           ]
       | inr elsewhere ↦ (
-          put.0,
-          subst (λ (all : List ℕ). IsFirst number all)
-          (sym (altered_other brought (λ (all : List ℕ). drop 1 all) l.puts receiver elsewhere)) put.1,
-          subst (λ count. IsPutBefore count (next_look (l.acts receiver)))
-          (sym (altered_other brought (λ (count : ℕ). count + 1) l.told receiver elsewhere)) put.2)
+        put.0,
+        subst (λ (all : List ℕ). IsFirst number all)
+            (sym (altered_other brought (λ (all : List ℕ). drop 1 all) l.puts receiver elsewhere)) put.1,
+        subst (λ count. IsPutBefore count (next_look (l.acts receiver)))
+            (sym (altered_other brought (λ (count : ℕ). count + 1) l.told receiver elsewhere)) put.2,
+      )
     ]
 
 permitted_then : (l : Left) (brought number : ℕ) (one : Act) → 0 < number → MayPut l 0 brought
@@ -379,18 +380,18 @@ both_brought l one other may also =
     elim (cases_eq one other) [
       | inl is ↦ inl (ap (λ n. after l (Brings n)) is)
       | inr apart ↦ inr (record {
-          first = put_after l other 0 one (inr apart) also may;
-          second = put_after l one 0 other (inr (λ is. apart (sym is))) may also;
-          same = λ i. record {
-            acts = l.acts;
-            puts = puts_same (Put one) (Put other) l.puts i;
-            told = told_same (Put one) (Put other) l.told i;
-            is_there = l.is_there;
-            changes = l.changes;
-            version = l.version;
-            clock = l.clock;
-          };
-        })
+        first = put_after l other 0 one (inr apart) also may;
+        second = put_after l one 0 other (inr (λ is. apart (sym is))) may also;
+        same = λ i. record {
+          acts = l.acts;
+          puts = puts_same (Put one) (Put other) l.puts i;
+          told = told_same (Put one) (Put other) l.told i;
+          is_there = l.is_there;
+          changes = l.changes;
+          version = l.version;
+          clock = l.clock;
+        };
+      })
     ]
 
 -- ---- the clock
@@ -451,10 +452,10 @@ two_go l number one later other another rest may also =
           let mine : MayGo l other one later = subst (λ n. MayGo l n one later) is may in
           inl (ap (λ n. after_act l n one later) is ∙ same_act l other one another later rest mine also)
       | inr apart ↦ inr (record {
-          first = may_after l other another rest number one later (λ is. apart (sym is)) also may;
-          second = may_after l number one later other another rest apart may also;
-          same = same_left l number one later other another rest apart;
-        })
+        first = may_after l other another rest number one later (λ is. apart (sym is)) also may;
+        second = may_after l number one later other another rest apart may also;
+        same = same_left l number one later other another rest apart;
+      })
     ]
 
 turned : (l : Left) (one other : Move) → AreApart l one other → AreApart l other one
